@@ -204,6 +204,9 @@ mod driver {
 
     fn item(code: u16, index: u64, at: u64, data: &[u8]) -> Answered {
         use PtpDataType::*;
+        if item_width(code).is_none() {
+            return Ok(NO_ANSWER.to_owned());
+        }
         Ok(match PtpDataType::read_type(code, &mut cursor(data, at))? {
             AINT8(v) => nth(&v, index, &i8::to_string),
             AUINT8(v) => nth(&v, index, &u8::to_string),
@@ -214,7 +217,7 @@ mod driver {
             AINT64(v) => nth(&v, index, &i64::to_string),
             AUINT64(v) => nth(&v, index, &u64::to_string),
             AINT128(v) | AUINT128(v) => nth(&v, index, &pair),
-            _ => NO_ANSWER.to_owned(),
+            other => format!("no array: {:?}", other),
         })
     }
 
@@ -244,12 +247,16 @@ mod driver {
         }
     }
 
+    fn item_width(code: u16) -> Option<usize> {
+        match code {
+            0x4001...0x400a => Some(1 << ((code - 0x4001) / 2)),
+            _ => None,
+        }
+    }
+
     /// The items of an array, read with the crate's reader from a count and the bytes, then encoded.
     fn written_array(code: u16, items: &[u8]) -> Option<Result<Vec<u8>, Error>> {
-        let width = match code {
-            0x4001...0x400a => 1 << ((code - 0x4001) / 2),
-            _ => return None,
-        };
+        let width = item_width(code)?;
         if items.len() % width != 0 {
             return None;
         }
