@@ -1,6 +1,7 @@
 
 // From here on the text is the project's: it answers the questions of `ask` (docs/ASK.md) by the crate's own
-// functions above, private ones too. `-` says that document 01's domain has no answer of the crate's.
+// functions above, private ones too. `-` says that document 01's domain has no answer of the crate's. Started with
+// `--outside` the program says what the crate does even there: what docs/DIFFERENCES.md tells of the Rust.
 
 mod driver {
     use super::*;
@@ -17,6 +18,10 @@ mod driver {
 
     /// An answer's text, or the crate's error.
     type Answered = Result<String, Error>;
+
+    fn outside() -> bool {
+        std::env::args().any(|argument| argument == "--outside")
+    }
 
     // Words of a question. Every question asked here is well formed: docs/ASK.md's `?` is nobody's of the crate.
 
@@ -91,7 +96,7 @@ mod driver {
                 }
             }
         }
-        format!("no answer of ours: {}", error)
+        format!("another error: {}", error)
     }
 
     fn hex(bytes: &[u8]) -> String {
@@ -270,6 +275,13 @@ mod driver {
         Ok(PtpDataType::read_type(code, &mut cursor(data, 0))?.encode())
     }
 
+    /// The crate's string encoding, which document 01 leaves out of the domain.
+    fn written_string(units: &[u32]) -> Option<Vec<u8>> {
+        let units: Vec<u16> = units.iter().map(|unit| *unit as u16).collect();
+        let string = String::from_utf16(&units).ok()?;
+        if left_out(false) { None } else { Some(PtpDataType::STR(string).encode()) }
+    }
+
     // Datasets.
 
     fn device_fields(read: &PtpDeviceInfo) -> String {
@@ -408,17 +420,21 @@ mod driver {
         !uses_length(data) || (PTP_CONTAINER_INFO_SIZE as u64 <= length && length <= data.len() as u64)
     }
 
+    fn left_out(in_domain: bool) -> bool {
+        !in_domain && !outside()
+    }
+
     fn header(data: &[u8]) -> Answered {
-        if uses_length(data) && announced(data) < PTP_CONTAINER_INFO_SIZE as u64 {
+        if left_out(!uses_length(data) || announced(data) >= PTP_CONTAINER_INFO_SIZE as u64) {
             return Ok(NO_ANSWER.to_owned());
         }
         let read = PtpContainerInfo::parse(data)?;
         Ok(format!("ok {} {} {} {}", kind_number(&read.kind), read.code, read.tid, read.payload_len))
     }
 
-    /// The first container's bytes, or all that are there if they are no container.
+    /// The first container's bytes, or all that are there if they are no container of the domain.
     fn first_container(data: &[u8]) -> &[u8] {
-        if uses_length(data) { &data[..announced(data) as usize] } else { data }
+        if uses_length(data) && length_in_domain(data) { &data[..announced(data) as usize] } else { data }
     }
 
     /// One container as the USB layer hands it over: a first read of at most 8 KiB, then the rest, which is an
@@ -437,14 +453,15 @@ mod driver {
     }
 
     fn container(data: &[u8]) -> Answered {
-        if !length_in_domain(data) {
+        if left_out(length_in_domain(data)) {
             return Ok(NO_ANSWER.to_owned());
         }
-        let one = first_container(data);
+        // Outside the domain all the bytes come in one phase, longer than announced or not.
+        let one = if outside() { data } else { first_container(data) };
         libusb::script(transfers(one));
         let (read, payload) = camera(0).read_txn_phase(Duration::new(0, 0))?;
         if payload[..] != one[PTP_CONTAINER_INFO_SIZE..] {
-            return Ok("the payload is not the container's".to_owned());
+            return Ok(format!("another payload: {}", hex(&payload)));
         }
         Ok(format!("ok {} {} {} {} {}", kind_number(&read.kind), read.code, read.tid, PTP_CONTAINER_INFO_SIZE,
                    payload.len()))
@@ -471,7 +488,7 @@ mod driver {
 
     fn command(words: &Words, payload: Option<&[u8]>, size: usize) -> String {
         let (number, code, parameters) = (words.u32(0), words.code(1), words.list(2));
-        if parameters.len() > MOST_PARAMETERS || number == u32::max_value() {
+        if left_out(parameters.len() <= MOST_PARAMETERS && number != u32::max_value()) {
             return NO_ANSWER.to_owned();
         }
         sent_by(number, size, &|camera| {
@@ -482,7 +499,7 @@ mod driver {
     fn call(words: &Words) -> String {
         let (number, storage, wanted, handle, size) =
             (words.u32(1), words.u32(2), words.u32(3), words.u32(4), words.size(5));
-        if number == u32::max_value() {
+        if left_out(number != u32::max_value()) {
             return NO_ANSWER.to_owned();
         }
         let filter = if wanted == 0 { None } else { Some(wanted) };
@@ -513,7 +530,10 @@ mod driver {
         let mut at = 0;
         loop {
             let rest = &data[at..];
-            if rest.is_empty() || !length_in_domain(rest) {
+            if rest.is_empty() {
+                return if outside() { Some(found) } else { None };
+            }
+            if left_out(length_in_domain(rest)) {
                 return None;
             }
             let one = first_container(rest);
@@ -534,20 +554,20 @@ mod driver {
     /// crate handed back those very bytes is tested.
     fn answer(number: u32, data: &[u8]) -> Answered {
         let phases = match phases(number, data) {
-            Some(ref phases) if number != u32::max_value() => phases.clone(),
+            Some(ref phases) if !left_out(number != u32::max_value()) => phases.clone(),
             _ => return Ok(NO_ANSWER.to_owned()),
         };
         libusb::script(phases.iter().flat_map(|&(start, end)| transfers(&data[start..end])).collect());
         let got = camera(number).command(StandardCommandCode::GetObject, &[], None, None);
-        let after = phases[phases.len() - 1].1 - libusb::unread();
+        let after = phases.last().map_or(0, |&(_, end)| end) - libusb::unread();
         let payload = match got {
             Err(Error::Response(code)) => return Ok(format!("ok response {} {}", code, after)),
             other => other?,
         };
         let last = phases.iter().filter(|&&(start, end)| is_data(&data[start..end])).last();
         let start = last.map_or(0, |&(start, _)| start + PTP_CONTAINER_INFO_SIZE);
-        if payload[..] != data[start..start + payload.len()] {
-            return Ok("the payload is not the last Data container's".to_owned());
+        if !data[start..].starts_with(&payload) {
+            return Ok(format!("another payload: {}", hex(&payload)));
         }
         Ok(format!("ok data {} {} {}", start, payload.len(), after))
     }
@@ -573,7 +593,7 @@ mod driver {
         let (handles, parents, ends) = (words.list(0), words.list(1), words.list(2));
         let count = handles.len();
         let buffer = words.bytes(3).len() as u32;
-        1 <= count && count <= MOST_OBJECTS && parents.len() == count && ends.len() == count
+        1 <= count && !left_out(count <= MOST_OBJECTS) && parents.len() == count && ends.len() == count
             && parents[0] == 0 && (1..count).all(|place| (parents[place] as usize) < place)
             && ends.windows(2).all(|two| two[0] <= two[1]) && ends[count - 1] <= buffer
     }
@@ -679,9 +699,11 @@ mod driver {
             "item" => plain(item(words.code(0), words.number(1), words.number(2), &words.bytes(3))),
             "utf8" => written(words.size(2), utf8(words.number(0), &words.bytes(1))),
             "write-value" => laid_out(words.size(2), "", &written_value(words.code(0), words.0[1]).encode()),
+            "write-string" => written_string(&words.list(0))
+                .map_or(NO_ANSWER.to_owned(), |bytes| laid_out(words.size(1), "", &bytes)),
             "write-array" => written_array(words.code(0), &words.bytes(1))
                 .map_or(NO_ANSWER.to_owned(), |bytes| written(words.size(2), bytes)),
-            "tidy-value" if words.code(0) != STRING => written(words.size(2), encoded_again(words.code(0), &words.bytes(1))),
+            "tidy-value" if !left_out(words.code(0) != STRING) => written(words.size(2), encoded_again(words.code(0), &words.bytes(1))),
             "device" => plain(device(&words.bytes(0))),
             "object" => plain(object(&words.bytes(0))),
             "storage" => plain(storage(&words.bytes(0))),
