@@ -23,6 +23,7 @@ import test_examples
 import test_orders
 import test_page
 
+EXAMPLES = differences.ROOT / "examples"
 SEED = "replay"
 SHORT_CASES = 35
 RANDOM_CASES = 35
@@ -41,6 +42,7 @@ def written_down():
         yield from (question for question, _ in listed)
     yield from (question for question, _, _ in differences.examples())
     yield from peers.PEERS
+    yield from (f"listing {path.read_bytes().hex()}" for path in sorted(EXAMPLES.glob("*.recording")))
 
 
 def every_name():
