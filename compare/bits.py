@@ -73,19 +73,21 @@ def string(rng, units):
     return bytes([len(units) + 1]) + b"".join(unit.to_bytes(2, "little") for unit in units + [last])
 
 
-def good_string(rng):
-    return string(rng, paired_units(rng, unit_count(rng)))
+def any_string(rng):
+    """A whole string, with surrogates in pairs but for one string in thirty."""
+    make = wild_units if rng.random() < 1 / 30 else paired_units
+    return string(rng, make(rng, unit_count(rng)))
 
 
 def value_bytes(rng, code):
-    """Bytes that are one whole value of the type."""
+    """Bytes that are one whole value of the type (a string's units may be wild)."""
     if code in values.WIDTHS:
         return number_bytes(rng, values.WIDTHS[code])
     item = values.item_code(code)
     if item is not None:
-        count = rng.randrange(5)
+        count = rng.randrange(300) if rng.random() < 0.01 else rng.randrange(5)
         return count.to_bytes(4, "little") + b"".join(number_bytes(rng, values.WIDTHS[item]) for _ in range(count))
-    return good_string(rng) if code == values.STRING else b""
+    return any_string(rng) if code == values.STRING else b""
 
 
 def number_bytes(rng, width):

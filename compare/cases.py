@@ -18,7 +18,7 @@ CASES = {
 }
 
 # How many cases a turn has of a question; one where nothing is said.
-SHARES = {"response-name": 3, "command-name": 3, "value": 5, "utf8": 2, "property": 2, "answer": 3, "tidy-value": 2, "listing": 2}
+SHARES = {"response-name": 4, "command-name": 4, "value": 5, "utf8": 2, "property": 2, "answer": 3, "tidy-value": 2, "listing": 2}
 
 
 def cases_of(name, seed):

@@ -4,7 +4,7 @@ import itertools
 
 import tree
 from ask import MOST_ROOM
-from bits import EDGES_64, Cases, damaged, good_string, hexed, listed, room_for
+from bits import EDGES_64, Cases, damaged, any_string, hexed, listed, room_for
 
 MOST = tree.MOST_OBJECTS
 LONGEST_NAME = 254
@@ -84,7 +84,7 @@ def random_table(rng):
     count = rng.randrange(20, 60) if rng.random() < 0.02 else rng.randrange(1, 12)
     back = rng.choice([1, 2, 3, count])
     parents = [0] + [rng.randrange(max(0, place - back), place) for place in range(1, count)]
-    names = [name("") if rng.random() < 0.2 else good_string(rng) for _ in range(count)]
+    names = [name("") if rng.random() < 0.2 else any_string(rng) for _ in range(count)]
     after = rng.randbytes(rng.randrange(3)) if rng.random() < 0.1 else b""
     return table_of(parents, names, after)
 

@@ -1,10 +1,12 @@
 """Runs the examples of docs/DIFFERENCES.md: `ours` against the model, `rust` against the oracle started with --outside.
+It fails too where a rule of compare/rules.py names a row that the page has not.
 
     compare/differences.py --oracle PROGRAM
 """
 
 import argparse
 import pathlib
+import re
 import subprocess
 import sys
 
@@ -14,6 +16,7 @@ sys.path.insert(0, str(ROOT / "model"))
 import ask
 
 PAGE = ROOT / "docs" / "DIFFERENCES.md"
+RULES = ROOT / "compare" / "rules.py"
 
 
 def examples():
@@ -29,6 +32,12 @@ def rust_answers(oracle, questions):
     return run.stdout.splitlines()
 
 
+def missing_rows():
+    """Rows that a rule names and the page has not."""
+    page = PAGE.read_text()
+    return [row for row in sorted(set(re.findall(r'"(D\d+)"', RULES.read_text()))) if f"**{row}." not in page]
+
+
 def main():
     parser = argparse.ArgumentParser(description="run the examples of docs/DIFFERENCES.md")
     parser.add_argument("--oracle", required=True)
@@ -39,8 +48,10 @@ def main():
              for who, told, got in (("ours", ours, ask.answer(question)), ("rust", rust, answer)) if told != got]
     for question, who, told, got in wrong:
         print(f"{question}\n  {who} is written as {told}\n  and is {got}")
+    for row in missing_rows():
+        print(f"compare/rules.py names {row}, which the page has not")
     print(f"{len(written)} examples, {len(wrong)} differ")
-    return 1 if wrong else 0
+    return 1 if wrong or missing_rows() else 0
 
 
 if __name__ == "__main__":

@@ -48,10 +48,9 @@ def longest():
     """The longest list and line, and one more."""
     for count in (ask.LONGEST_LIST, ask.LONGEST_LIST + 1):
         yield "write-string " + ",".join(["65"] * count) + " 9"
-    start = "value 0 0 "
-    most = (ask.LONGEST_LINE - len(start)) // 2
-    for count in (most, most + 1):
-        yield start + "00" * count
+    digits = "00" * ((ask.LONGEST_LINE - len("value 0 0 ")) // 2)
+    yield "value 0 0 " + digits
+    yield "value 0 00 " + digits
 
 
 def short_malformed(rng):
