@@ -1,0 +1,7 @@
+pub mod Counts
+pub mod Alone
+pub mod Ways
+pub mod Grown
+pub mod Tables
+pub mod Scans
+pub mod Tested
