@@ -4,4 +4,5 @@ pub mod Ways
 pub mod Grown
 pub mod Tables
 pub mod Scans
+pub mod Unique
 pub mod Tested

@@ -7,6 +7,7 @@ use Prim.Native.Nat.{ℕ, zero, suc, _-_, _≤_, _<_}
 use lib.ListN.{length, getD, take, drop}
 use lib.Dec.{leb, ltb, eqb}
 use Rattle.layout.specs.Answer.{Answer, got, refused, bare, pick, after}
+use Rattle.wire.specs.Places.{textAt}
 
 -- handles, parent entries, and the names end to end in one buffer with an end for each
 pub record Table : Type 0 where
@@ -77,3 +78,18 @@ unfoldable pub tableOk : Table → Bool
 tableOk t =
     eqb (length (t .handles)) (length (t .parents)) && eqb (length (t .ends)) (length (t .parents))
     && parentsOk (t .parents) && risesFrom 0 (t .ends) (length (t .names))
+
+-- ── then 1, 2, 3, name by name ──
+
+-- a name is wholly one string: what the string is refused with, then 3 for bytes after it
+unfoldable pub nameAt : List ℕ → Answer (Unit {0})
+nameAt s = after (textAt s 0) λ _ next. pick (eqb next (length s)) (got tt next) (refused (bare 3))
+
+-- the m names from place k on; none is left: so many there are
+unfoldable pub namesFrom : ℕ → ℕ → List ℕ → List ℕ → Answer (Unit {0})
+namesFrom k zero es ns = got tt k
+namesFrom k (suc m) es ns = after (nameAt (nameBytes es ns k)) λ _ _. namesFrom (suc k) m es ns
+
+-- the number of objects, or the first refusal
+unfoldable pub tableAt : Table → Answer (Unit {0})
+tableAt t = pick (tableOk t) (namesFrom 0 (length (t .ends)) (t .ends) (t .names)) (refused (bare 11))

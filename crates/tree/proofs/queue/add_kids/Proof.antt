@@ -1,7 +1,7 @@
-use Rattle.tree.proofs.walk.add_kids.Statement.{statement}
-use Rattle.tree.proofs.walk.add_kids.Tie as tie
-use Rattle.tree.proofs.walk.add_kids.Reads as reads
-use Rattle.tree.proofs.walk.add_kids.Lts as lts
+use Rattle.tree.proofs.queue.add_kids.Statement.{statement}
+use Rattle.tree.proofs.queue.add_kids.Tie as tie
+use Rattle.tree.proofs.queue.add_kids.Reads as reads
+use Rattle.tree.proofs.queue.add_kids.Lts as lts
 use borrow.Author.Needs.{needs}
 use mathlib.Core.Path.{_≡_, refl, sym, ap, _∙_}
 use native.Mathlib.Omega.{arith}

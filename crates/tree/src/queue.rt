@@ -3,10 +3,13 @@ ghost use mathlib.Core.Path.{_≡_};
 ghost use Prim.Native.Nat.{_+_, _≤_, _<_};
 ghost use lib.ListN.{length};
 ghost use Rattle.layout.specs.Written.{Put};
-ghost use Rattle.tree.specs.Table.{Ruled};
+ghost use Rattle.tree.specs.Table.{table, Ruled};
 ghost use Rattle.tree.specs.Kids.{kids};
 ghost use Rattle.tree.specs.Way.{within};
-ghost use Rattle.tree.specs.Says.{Walks};
+ghost use Rattle.tree.specs.Says.{Walks, OrderSays};
+use crate::Checked;
+use crate::Order;
+use crate::table;
 
 // Puts the places whose parent is `p` behind the first `count`.
 fn add_kids(parents: &[u16], p: usize, places: &mut [u16], count: usize) -> usize
@@ -42,4 +45,29 @@ pub(crate) fn walk_ruled(parents: &[u16], places: &mut [u16]) -> usize
         i += 1;
     }
     count
+}
+
+// The walk of a table, or its refusal.
+pub fn walk(handles: &[u32], parents: &[u16], ends: &[u32], names: &[u8]) -> Order
+    ensures { λ r. ⌜ OrderSays (table (now (handles .entry)) (now (parents .entry)) (now (ends .entry)) (now (names .entry))) r ⌝ }
+{
+    let mut places = [0u16; 1024];
+    match table::check_table(handles, parents, ends, names) {
+        Checked::Whole(_) => {
+            let count = walk_ruled(parents, &mut places);
+            Order {
+                refusal: 0,
+                count,
+                places,
+            }
+        }
+        Checked::Refused(f) => {
+            let refusal = f.no;
+            Order {
+                refusal,
+                count: 0,
+                places,
+            }
+        }
+    }
 }

@@ -1,8 +1,8 @@
-use Rattle.tree.proofs.walk.walk_ruled.Statement.{statement}
-use Rattle.tree.proofs.walk.walk_ruled.Tie as tie
-use Rattle.tree.proofs.walk.walk_ruled.Reads as reads
-use Rattle.tree.proofs.walk.walk_ruled.Lts as lts
-use Rattle.tree.proofs.walk.add_kids.Reads as add-kids-reads
+use Rattle.tree.proofs.queue.walk_ruled.Statement.{statement}
+use Rattle.tree.proofs.queue.walk_ruled.Tie as tie
+use Rattle.tree.proofs.queue.walk_ruled.Reads as reads
+use Rattle.tree.proofs.queue.walk_ruled.Lts as lts
+use Rattle.tree.proofs.queue.add_kids.Reads as add-kids-reads
 use mathlib.Core.Path.{_≡_, _∙_}
 use native.Mathlib.Omega.{arith}
 use Prim.Native.Nat.{_≤_, _-_}
