@@ -41,10 +41,6 @@ then {old} {mid} {new} {a} {b} {at} {k} {m} p q = record {
 pub long : {old new bs : List ℕ} {at k : ℕ} → Put old at bs new k → length new ≡ length old
 long {old} {new} {bs} {at} p = ap length (p .bytes) ∙ length-put old at bs
 
-pub nothing : {out : List ℕ} {o : ℕ} → Put out o [] out o
-unfolding put
-nothing = record { bytes = refl; place = sym (add-zero _) }
-
 -- what has room is put, and what has none is not
 pub in-room : (out : List ℕ) (at : ℕ) (bs : List ℕ) → length bs ≤ length out - at → roomed out at bs ≡ bs
 unfolding roomed
@@ -53,6 +49,17 @@ in-room out at bs h = rw (le-leb (length bs) (length out - at) h)
 pub out-of-room : (out : List ℕ) (at : ℕ) (bs : List ℕ) → length out - at < length bs → roomed out at bs ≡ []
 unfolding roomed
 out-of-room out at bs h = rw (lt-leb (length bs) (length out - at) h)
+
+pub roomy : {old new : List ℕ} {at next : ℕ} (bs : List ℕ) → Put old at (roomed old at bs) new next → length bs ≤ length old - at → Put old at bs new next
+roomy {old} {new} {at} {next} bs p h = rw (in-room old at bs h) at p
+
+-- a write that has room, after others
+pub then-roomy : {old mid new a : List ℕ} {at k m : ℕ} (b : List ℕ) → Put old at a mid k → Put mid k (roomed mid k b) new m → length a + length b ≤ length old - at → Put old at (a ++ b) new m
+then-roomy {old} {mid} {new} {a} {at} {k} {m} b p q h = then p (roomy b q (omega (arith, p .place, long p)))
+
+pub nothing : {out : List ℕ} {o : ℕ} → Put out o [] out o
+unfolding put
+nothing = record { bytes = refl; place = sym (add-zero _) }
 
 -- to take no more than there is
 pub take-least : (m n : ℕ) (l : List ℕ) → m ≡ pick (leb n (length l)) n (length l) → (take m l ≡ take n l) × (m ≤ length l) × (length (take n l) ≡ m)

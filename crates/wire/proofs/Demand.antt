@@ -1,0 +1,17 @@
+-- The demand at each layout of the byte layer: accepted exactly when a prefix is in the grammar, one prefix and one reading, and the one tidy word.
+-- Assumes nothing.
+use Prim.Native.Nat.{ℕ}
+use Rattle.layout.specs.Faithful.{Faithful}
+use Rattle.layout.proofs.Meets.{faithful}
+use Rattle.wire.specs.Layout.{Text, Value, Row, storage}
+use Rattle.wire.specs.Codecs.{text, value, row}
+use Rattle.wire.proofs.Formats.{text-format, value-format, row-format}
+
+pub texts : Faithful Text text
+texts = faithful text-format
+
+pub values : (t : ℕ) → Faithful (Value t) (value t)
+values t = faithful (value-format t)
+
+pub storages : Faithful (Row storage) (row storage)
+storages = faithful (row-format storage)

@@ -1,0 +1,82 @@
+-- Each codec of the byte layer is faithful to its layout: one line for each way that the layout is made.
+-- Assumes nothing.
+use mathlib.Core.Path.{_≡_, refl, ap, sym, subst}
+use mathlib.Core.Bool.{Bool, true, false}
+use mathlib.Core.List.{List, [], _∷_, map}
+use Prim.Native.Nat.{ℕ, zero, suc, _+_, _-_, _^_, _<_}
+use native.Mathlib.Omega.{arith}
+use lib.IntN.{pos, negsuc}
+use lib.Dec.{ltb}
+use lib.ListN.{length}
+use Rattle.layout.specs.Answer.{pick, badText}
+use Rattle.layout.specs.Bytes.{bytes}
+use Rattle.layout.specs.Grammar.{loose, empty, Number, num, _then_, both, lead, such, as′, Repeat, Spare, Counted}
+use Rattle.layout.specs.Format.{Format}
+use Rattle.layout.proofs.Make.{nothing-format, number-format, then-format, lead-format, such-format, as-format, field-format, repeat-length, spare-format, cells-format, count-format}
+use Rattle.wire.specs.Layout.{signed, Kind, sint, uint, wide, width, meaning, paired, Units, text-count, Text, Shape, one, many, string, undef, shape, Shaped, Value, Row}
+use Rattle.wire.specs.Codecs.{unsigned, number-of, all-units, units, text, array, shaped, value, row}
+
+-- ── the number that a meaning is of ──
+
+unsigned-signed : (full n : ℕ) → n < full → unsigned full (signed full n) ≡ n
+unfolding signed
+unsigned-signed full n h = go (ltb (n + n) full)
+  where
+    go : (b : Bool) → unsigned full (pick b (pos n) (negsuc (full - suc n))) ≡ n
+    go true = refl
+    go false = omega arith
+
+pub number-back : (k : Kind) (w : List ℕ) (n : ℕ) → Number (width k) loose w n → number-of k (meaning k n) ≡ n
+number-back (sint k) w n (num h) = unsigned-signed (256 ^ k) n h
+number-back (uint k) w n (num h) = refl
+number-back wide w n (num h) = omega arith
+
+numbers-back : (k : Kind) (m : ℕ) (w ns : List ℕ) → Repeat m (Number (width k)) loose w ns → map (number-of k) (map (meaning k) ns) ≡ ns
+numbers-back k zero w ns empty = refl
+numbers-back k (suc m) w ns (as′ (both {u} {v} {a} {b} g h)) = cc (number-back k u a g, numbers-back k m v b h)
+
+-- ── strings ──
+
+all-units-format : (n : ℕ) → Format (Repeat n (Number 2) then λ _. Spare 2) (all-units n)
+all-units-format n = then-format (cells-format 2 n) λ _. spare-format 2
+
+units-format : (n : ℕ) → Format (Units n) (units n)
+units-format zero = nothing-format []
+units-format (suc n) = such-format badText paired (as-format _ (all-units-format n) _ λ w x g. refl)
+
+units-length : (n : ℕ) (w us : List ℕ) → Units (suc n) loose w us → length us ≡ n
+units-length n w us (such p (as′ (both {u} {a} g h))) = repeat-length (Number 2) loose n u a g
+
+text-home : (n : ℕ) (u v us : List ℕ) → Number 1 loose u n → Units n loose v us → ((w : List ℕ) × Number 1 loose w (text-count us)) × ((w : List ℕ) × Units (text-count us) loose w us)
+text-home zero u v us g empty = ((u, g), (v, empty))
+text-home (suc n) u v us g h = go us (units-length n v us h) h
+  where
+    go : (us : List ℕ) → length us ≡ n → Units (suc n) loose v us → ((w : List ℕ) × Number 1 loose w (text-count us)) × ((w : List ℕ) × Units (text-count us) loose w us)
+    go [] e h = ((bytes 1 0, num {n = 0} (omega arith)), ([], empty))
+    go (x ∷ us) e h = subst (λ m. ((w : List ℕ) × Number 1 loose w (suc m)) × ((w : List ℕ) × Units (suc m) loose w (x ∷ us))) (sym e) ((u, g), (v, h))
+
+pub text-format : Format Text text
+text-format = field-format (lead-format (number-format 1) text-count units-format text-home)
+
+-- ── values ──
+
+pub array-format : (w : ℕ) → Format (Counted 4 (Number w)) (array w)
+array-format w = field-format (count-format 4 (cells-format w))
+
+array-back : (k : Kind) (w ns : List ℕ) → Counted 4 (Number (width k)) loose w ns → map (number-of k) (map (meaning k) ns) ≡ ns
+array-back k w ns (lead {v} {a} g e h) = numbers-back k a v ns h
+
+pub shape-format : (x : Shape) → Format (Shaped x) (shaped x)
+shape-format (one k) = as-format _ (number-format (width k)) _ λ w n g. ap (bytes (width k)) (number-back k w n g)
+shape-format (many k) = as-format _ (array-format (width k)) _ λ w ns g. ap ((array (width k)) .write) (array-back k w ns g)
+shape-format string = as-format _ text-format _ λ w a g. refl
+shape-format undef = nothing-format _
+
+pub value-format : (t : ℕ) → Format (Value t) (value t)
+value-format t = shape-format (shape t)
+
+-- ── records ──
+
+pub row-format : (ts : List ℕ) → Format (Row ts) (row ts)
+row-format [] = nothing-format []
+row-format (t ∷ ts) = as-format _ (then-format (value-format t) λ _. row-format ts) _ λ w a g. refl
