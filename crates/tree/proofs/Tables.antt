@@ -14,7 +14,7 @@ use lib.Dec.{ltb, leb, eqb}
 use lib.Seq.{drop-cons}
 use Rattle.layout.specs.Answer.{Told, Answer, got, refused, bare, pick}
 use Rattle.layout.proofs.Reading.{follow, stop}
-use Rattle.tree.specs.Table.{Table, parent, kept, keptFrom, parentsOk, Ruled, Marks, risesFrom, startOf, endOf, Rising, tableOk, nameAt, namesFrom, tableAt}
+use Rattle.tree.specs.Table.{Table, parent, kept, keptFrom, parentsOk, Ruled, Marks, risesFrom, startOf, endOf, Rising, Kept, tableOk, nameAt, namesFrom, tableAt}
 use Rattle.tree.specs.Way.{within}
 
 -- ── the parent entries ──
@@ -117,23 +117,15 @@ names-end k es ns h = let m : length es - k ≡ 0 = omega arith in rw m
 
 -- ── the table ──
 
--- what the rule gives
-pub record Kept (t : Table) : Type 0 where
-  pub handled : length (t .handles) ≡ length (t .parents)
-  pub ended : length (t .ends) ≡ length (t .parents)
-  pub ruling : Ruled (t .parents)
-  pub spaced : Rising (t .ends) (length (t .names))
-
-pub kept-table : (t : Table) → tableOk t ≡ true → Kept t
+pub kept-table : (t : Table) → tableOk t ≡ true → Kept (t .parents) (t .ends) (t .names)
 unfolding tableOk
 kept-table t e =
     let a = and-eq-true-iff (eqb (length (t .handles)) (length (t .parents)) && eqb (length (t .ends)) (length (t .parents)) && parentsOk (t .parents)) _ .0 e in
     let b = and-eq-true-iff (eqb (length (t .handles)) (length (t .parents)) && eqb (length (t .ends)) (length (t .parents))) _ .0 (a .0) in
     let d = and-eq-true-iff (eqb (length (t .handles)) (length (t .parents))) _ .0 (b .0) in
     record {
-      handled = eqb-true _ _ (d .0);
-      ended = eqb-true _ _ (d .1);
       ruling = ruled (t .parents) (b .1);
+      ended = eqb-true _ _ (d .1);
       spaced = rising (t .ends) (length (t .names)) (a .1);
     }
 
@@ -146,7 +138,7 @@ unfolding tableAt
 table-names t e = rw e
 
 -- an accepted table keeps the rule
-pub accepted : (t : Table) {n : ℕ} → got tt n ≡ tableAt t → Kept t
+pub accepted : (t : Table) {n : ℕ} → got tt n ≡ tableAt t → Kept (t .parents) (t .ends) (t .names)
 unfolding tableAt
 accepted t {n} e = kept-table t (go (tableOk t) e)
   where

@@ -1,5 +1,6 @@
 pub mod Table
 pub mod Listed
 pub mod Way
-pub mod Kids
+pub mod Path
 pub mod Says
+pub mod Kids

@@ -72,6 +72,12 @@ pub record Rising (es : List ℕ) (size : ℕ) : Type 0 where
   pub rises : (k : ℕ) → k < length es → startOf es k ≤ endOf es k
   pub within : (k : ℕ) → k < length es → endOf es k ≤ size
 
+-- what a table's rule gives to those who go by its parents, ends and names
+pub record Kept (ps es ns : List ℕ) : Type 0 where
+  pub ruling : Ruled ps
+  pub ended : length es ≡ length ps
+  pub spaced : Rising es (length ns)
+
 -- ── 11 ──
 
 unfoldable pub tableOk : Table → Bool
