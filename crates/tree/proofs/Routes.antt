@@ -4,12 +4,11 @@ use mathlib.Core.Path.{_≡_, refl, sym, ap, _∙_}
 use mathlib.Core.List.{List, [], _∷_, _++_}
 use Prim.Native.Nat.{ℕ, zero, suc, _+_, _-_, _*_, _≤_, _<_}
 use native.Mathlib.Nat.{not-suc-le-zero}
-use native.Mathlib.Numerals.{add-one, sub-one}
+use native.Mathlib.Numerals.{sub-one}
 use native.Mathlib.Omega.{arith}
 use borrow.Author.Tests.{eq-eqb, ne-eqb, lt-ltb, le-ltb}
 use lib.Dec.{eqb}
-use lib.ListN.{length, getD, take, drop, length-append, drop-of-length-le}
-use lib.Seq.{drop-cons}
+use lib.ListN.{length, getD, take, drop, length-append}
 use Rattle.layout.specs.Answer.{Told, got, refused, bare, pick, means}
 use Rattle.layout.specs.Bytes.{Bytes}
 use Rattle.layout.specs.Written.{says, no, Put, spelling, roomed}
@@ -19,8 +18,7 @@ use Rattle.layout.proofs.Writing.{then-roomy}
 use Rattle.wire.specs.Utf8.{utf8At}
 use Rattle.wire.proofs.Points.{utf8-short}
 use Rattle.tree.specs.Table.{Table, tableAt, parent, Ruled, startOf, endOf, nameBytes}
-use Rattle.tree.specs.Way.{fromRoot}
-use Rattle.tree.specs.Path.{nameOf, slashAfter, pathOf, joined, endsFrom, pathSaid}
+use Rattle.tree.specs.Path.{nameOf, slashAfter, pathOf, pathSaid}
 use Rattle.tree.proofs.Counts.{equal}
 use Rattle.tree.proofs.Ways.{at-root, by-parent}
 

@@ -1,7 +1,7 @@
 -- The table's rule as a test and as facts. The test goes entry by entry, so that a loop may carry "what is left of the test is the test", and an
 -- induction over the entries turns the test into the facts.
 -- Assumes nothing.
-use mathlib.Core.Path.{_≡_, refl, sym, _∙_}
+use mathlib.Core.Path.{_≡_, refl}
 use mathlib.Core.Bool.{Bool, true, false, _&&_, and-eq-true-iff}
 use mathlib.Core.List.{List, [], _∷_}
 use Prim.Native.Nat.{ℕ, zero, suc, _+_, _-_, _≤_, _<_}
@@ -12,7 +12,7 @@ use borrow.Author.Tests.{ne-eqb, eqb-true, ltb-true, leb-true, lt-ltb}
 use lib.ListN.{length, getD, take, drop, drop-of-length-le}
 use lib.Dec.{ltb, leb, eqb}
 use lib.Seq.{drop-cons}
-use Rattle.layout.specs.Answer.{Told, Answer, got, refused, bare, pick}
+use Rattle.layout.specs.Answer.{Told, got, refused, bare, pick}
 use Rattle.layout.proofs.Reading.{follow, stop}
 use Rattle.tree.specs.Table.{Table, parent, kept, keptFrom, parentsOk, Ruled, Marks, risesFrom, startOf, endOf, Rising, Kept, tableOk, nameAt, namesFrom, tableAt}
 use Rattle.tree.specs.Way.{within}

@@ -3,16 +3,16 @@
 use mathlib.Core.Path.{_≡_, refl, sym, ap, _∙_}
 use mathlib.Core.Bool.{Bool, true, false}
 use mathlib.Core.List.{List, [], _∷_, _++_}
-use Prim.Native.Nat.{ℕ, zero, suc, _+_, _-_, _*_, _≤_, _<_}
+use Prim.Native.Nat.{ℕ, suc, _+_, _*_, _≤_, _<_}
 use native.Mathlib.Numerals.{add-one}
 use native.Mathlib.Omega.{arith}
-use borrow.Author.Tests.{le-leb, lt-leb, leb-true, leb-false, ltb-true, ltb-false}
+use borrow.Author.Tests.{le-leb, lt-leb, leb-true, leb-false, ltb-true}
 use lib.Dec.{leb, ltb}
 use lib.ListN.{length, getD, take, drop, length-append, drop-of-length-le}
 use lib.Seq.{drop-cons, take-at}
-use Rattle.layout.specs.Answer.{Told, Answer, got, refused, bare, pick}
+use Rattle.layout.specs.Answer.{Told, got, refused, bare, pick}
 use Rattle.layout.specs.Bytes.{Bytes}
-use Rattle.layout.specs.Written.{Said, says, no, Put, Wrote, leftOf}
+use Rattle.layout.specs.Written.{says, no, Put, leftOf}
 use Rattle.layout.proofs.Tidied.{zero-one}
 use Rattle.layout.proofs.Writing.{refusal, no-room, done}
 use Rattle.tree.specs.Listed.{times, Every, none, more}

@@ -1,5 +1,4 @@
 // The walk of a table, breadth first, by a fixed queue.
-ghost use mathlib.Core.Path.{_≡_};
 ghost use Prim.Native.Nat.{_+_, _≤_, _<_};
 ghost use lib.ListN.{length};
 ghost use Rattle.layout.specs.Written.{Put};

@@ -1,5 +1,5 @@
 -- `tree::climb::put_path`: the place falls at each call; the parent's path, the slash and the name are one write. Assumes nothing.
-use mathlib.Core.Path.{_≡_, sym, ap, _∙_}
+use mathlib.Core.Path.{ap}
 use Prim.Native.Nat.{ℕ, _<_}
 use native.Mathlib.Omega.{arith}
 use borrow.Author.Needs.{needs}

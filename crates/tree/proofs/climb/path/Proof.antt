@@ -1,5 +1,5 @@
 -- `tree::climb::path`: the table is accepted, the place is there, the path has room, and is put. Assumes nothing.
-use mathlib.Core.Path.{_≡_, sym, ap, _∙_}
+use mathlib.Core.Path.{sym, ap, _∙_}
 use native.Mathlib.Omega.{arith}
 use borrow.Author.Needs.{needs}
 use Rattle.layout.specs.Written.{no}

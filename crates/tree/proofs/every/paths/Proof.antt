@@ -1,5 +1,5 @@
 -- `tree::every::paths`: the table is accepted, its walk is made, both outputs have room, and the paths are put. Assumes nothing.
-use mathlib.Core.Path.{_≡_, sym}
+use mathlib.Core.Path.{sym}
 use native.Mathlib.Omega.{arith}
 use borrow.Author.Needs.{needs}
 use Rattle.layout.proofs.Reading.{heard}

@@ -1,5 +1,4 @@
 -- `wire::Cursor::put_utf8`: the string is read, its room tested, and its units put. Assumes nothing.
-use mathlib.Core.Path.{_≡_, ap}
 use native.Mathlib.Omega.{arith}
 use borrow.Author.Needs.{needs}
 use denote.Ref.{now}
