@@ -74,6 +74,10 @@ same-length c =
     let b = c .before .before .before .before in
     queue-long _ (b .pre .0) _ (all-marked _ (b .pre .0)) (c .before .loop .inv .0) (c .before .loop .inv .1) ∙ length-set (b .args .places .now) 0 0
 
+-- nothing is left to do, so it is the walk
+returns : tie.Need-returns Inv-loop μ-loop
+returns c = queue-end _ (c .before .before .before .before .pre .0) (c .before .loop .inv .0) (c .loop-test .left)
+
 pub walk-ruled-spec : {M : Type 1} → statement M
 walk-ruled-spec =
     tie.close
@@ -90,4 +94,4 @@ walk-ruled-spec =
     loop-less
     loop-again
     same-length
-    (λ c. queue-end _ (c .before .before .before .before .pre .0) (c .before .loop .inv .0) (c .loop-test .left)))
+    returns)
