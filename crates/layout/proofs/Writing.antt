@@ -28,7 +28,7 @@ unfolding put
 put-put out at [] b = rw add-zero
 put-put out at (x ∷ a) b = ap (λ (k : ℕ). sets (sets (set out at x) (suc at) a) k b) (add-suc at (length a) ∙ sym (suc-add at (length a))) ∙ put-put (set out at x) (suc at) a b
 
-put-front : (out bs : List ℕ) → length bs ≤ length out → put out 0 bs ≡ bs ++ drop (length bs) out
+pub put-front : (out bs : List ℕ) → length bs ≤ length out → put out 0 bs ≡ bs ++ drop (length bs) out
 unfolding put
 put-front out bs h = sets-eq bs out 0 (omega arith) ∙ rw zero-add
 

@@ -1,7 +1,7 @@
 // What a type code says of a value: a number of some kind, an array of them, a string, or UNDEF.
 ghost use mathlib.Core.Path.{_≡_};
 ghost use mathlib.Core.Option.{none};
-ghost use Prim.Native.Nat.{_-_, _≤_};
+ghost use Prim.Native.Nat.{_-_, _≤_, _<_};
 ghost use lib.ListN.{getD};
 ghost use Rattle.wire.specs.Layout.{kinds, shape, width};
 ghost use Rattle.wire.specs.Says.{saysKind, saysKnown, saysShape};
@@ -77,7 +77,7 @@ pub(crate) fn shape_of(code: u16) -> Shape
 }
 
 pub(crate) fn width_of(k: Kind) -> usize
-    ensures { λ r. ⌜ (r ≡ width (saysKind k)) × (r ≤ 16) ⌝ }
+    ensures { λ r. ⌜ (r ≡ width (saysKind k)) × (r ≤ 16) × (0 < r) ⌝ }
 {
     match k {
         Kind::I8 => 1,

@@ -1,0 +1,16 @@
+-- A row of total stores that all have room is one write.
+-- Assumes nothing.
+use mathlib.Core.List.{List, _++_}
+use Prim.Native.Nat.{ℕ, _+_, _≤_}
+use native.Mathlib.Omega.{arith}
+use lib.ListN.{length}
+use Rattle.layout.specs.Written.{Put, roomed}
+use Rattle.layout.proofs.Writing.{then, long, in-room}
+
+-- the first of them
+pub first : {out bs new : List ℕ} {at n : ℕ} → at + length bs ≤ length out → Put out at (roomed out at bs) new n → Put out at bs new n
+first {out} {bs} {new} {at} h p = rw (in-room out at bs (omega arith)) at p
+
+-- one more
+pub more : {out mid new done : List ℕ} {at k m : ℕ} → Put out at done mid k → (next : List ℕ) → at + length done + length next ≤ length out → Put mid k (roomed mid k next) new m → Put out at (done ++ next) new m
+more p next h q = then p (first (omega (arith, p .place, long p)) q)

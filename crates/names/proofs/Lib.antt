@@ -1,0 +1,4 @@
+pub mod Tables
+pub mod Spells
+pub mod Naming
+pub mod Unique
