@@ -155,7 +155,7 @@ unfolding encodedAll
 all-few [] = omega arith
 all-few (c ∷ cs) = omega (arith, length-append (encoded c) (encodedAll cs), encoded-few c, all-few cs)
 
-utf8-few : (us : List ℕ) → length (utf8 us) ≤ 4 * length us
+pub utf8-few : (us : List ℕ) → length (utf8 us) ≤ 4 * length us
 unfolding utf8
 utf8-few us = omega (arith, all-few (points us), points-few us)
 

@@ -49,7 +49,7 @@ add-kids-requires c κs =
     let more = c .before .before .loop-test .taken in
     let room = queue-room _ rule _ (all-marked _ rule) (l .0) more in
     let long = queue-long _ rule _ (all-marked _ rule) (l .0) (l .1) in
-    (rule .few, (queue-place _ rule _ (all-marked _ rule) (l .0) more, omega arith))
+    (rule .few, (queue-place _ rule _ (all-marked _ rule) (l .0) more, (room, omega arith)))
 
 add-i : tie.Need-add-i Inv-loop μ-loop
 add-i c =
