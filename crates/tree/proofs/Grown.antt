@@ -13,10 +13,12 @@ use lib.ListN.{length, getD, take, length-append}
 use lib.Seq.{take-suc, take-all, take-append-le}
 use lib.Dec.{eqb, ltb}
 use Rattle.layout.specs.Answer.{pick}
-use Rattle.tree.specs.Table.{parent, Ruled, Marks}
+use Rattle.tree.specs.Facts.{Ruled}
+use Rattle.tree.specs.Table.{parent}
 use Rattle.tree.specs.Listed.{times, Every, none, more, Sorted, done, next}
 use Rattle.tree.specs.Way.{Before, Walk}
 use Rattle.tree.specs.Kids.{hangs, kidsIn, kids}
+use Rattle.tree.proofs.Tables.{Marks}
 use Rattle.tree.proofs.Counts.{equal, hit, miss, times-append, times-take, pigeon, every-map, every-both, every-append, every-get, every-take}
 use Rattle.tree.proofs.Ways.{Kid, before-root, before-kids, before-beside}
 

@@ -17,7 +17,8 @@ use Rattle.layout.proofs.Tidied.{measured, unmeasured}
 use Rattle.layout.proofs.Writing.{then-roomy}
 use Rattle.wire.specs.Utf8.{utf8At}
 use Rattle.wire.proofs.Points.{utf8-short}
-use Rattle.tree.specs.Table.{Table, tableAt, parent, Ruled, startOf, endOf, nameBytes}
+use Rattle.tree.specs.Facts.{Ruled}
+use Rattle.tree.specs.Table.{Table, tableAt, parent, startOf, endOf, nameBytes}
 use Rattle.tree.specs.Path.{nameOf, slashAfter, pathOf, pathSaid}
 use Rattle.tree.proofs.Counts.{equal}
 use Rattle.tree.proofs.Ways.{at-root, by-parent}

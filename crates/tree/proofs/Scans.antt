@@ -10,11 +10,12 @@ use borrow.Author.Tests.{eq-eqb, ne-eqb}
 use lib.ListN.{length, getD, drop, set, length-append, length-drop, List·getD-append}
 use lib.Seq.{sets, sets-eq, take-append-seam, drop-append-add, drop-drop, drop-set-lt}
 use Rattle.layout.specs.Written.{put, Put}
-use Rattle.tree.specs.Table.{parent, Ruled, Marks}
+use Rattle.tree.specs.Facts.{Ruled}
+use Rattle.tree.specs.Table.{parent}
 use Rattle.tree.specs.Kids.{kidsIn, kids}
 use Rattle.tree.specs.Way.{within}
 use Rattle.tree.specs.Says.{Walks}
-use Rattle.tree.proofs.Tables.{all-marked}
+use Rattle.tree.proofs.Tables.{Marks, all-marked}
 use Rattle.tree.proofs.Grown.{Grown, start, room, place, turn, end}
 
 -- ── the scan ──

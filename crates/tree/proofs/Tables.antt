@@ -14,7 +14,8 @@ use lib.Dec.{ltb, leb, eqb}
 use lib.Seq.{drop-cons}
 use Rattle.layout.specs.Answer.{Told, got, refused, bare, pick}
 use Rattle.layout.proofs.Reading.{follow, stop}
-use Rattle.tree.specs.Table.{Table, parent, kept, keptFrom, parentsOk, Ruled, Marks, risesFrom, startOf, endOf, Rising, Kept, tableOk, nameAt, namesFrom, tableAt}
+use Rattle.tree.specs.Facts.{Ruled, Rising, Kept}
+use Rattle.tree.specs.Table.{Table, parent, kept, keptFrom, parentsOk, risesFrom, startOf, endOf, tableOk, nameAt, namesFrom, tableAt}
 use Rattle.tree.specs.Way.{within}
 
 -- ── the parent entries ──
@@ -43,11 +44,6 @@ all (p ∷ ps) i e (suc k) h l =
     let r = all ps (suc i) (and-eq-true-iff (kept i p) (keptFrom (suc i) ps) .0 e .1) k (omega arith) (omega arith) in
     omega arith
 
-first : (ps : List ℕ) → keptFrom 0 ps ≡ true → getD ps 0 0 ≡ 0
-unfolding keptFrom
-first [] e = refl
-first (p ∷ ps) e = eqb-true p 0 (and-eq-true-iff (eqb p 0) _ .0 e .0)
-
 pub ruled : (ps : List ℕ) → parentsOk ps ≡ true → Ruled ps
 ruled ps e =
     let a = and-eq-true-iff (ltb 0 (length ps) && leb (length ps) 1024) (keptFrom 0 ps) .0 e in
@@ -55,9 +51,14 @@ ruled ps e =
     record {
       some = ltb-true 0 (length ps) (b .0);
       few = leb-true (length ps) 1024 (b .1);
-      root = first ps (a .1);
       smaller = λ k h l. rw zero-add at (all ps 0 (a .1) k (omega arith) l);
     }
+
+-- which places a question is of: the root is marked, only places are, and so is the parent of what is
+pub record Marks (ps : List ℕ) (has : ℕ → Bool) : Type 0 where
+  pub root : has 0 ≡ true
+  pub place : (k : ℕ) → has k ≡ true → k < length ps
+  pub up : (k : ℕ) → 0 < k → has k ≡ true → has (parent ps k) ≡ true
 
 -- all places of a table may be marked
 pub all-marked : (ps : List ℕ) → Ruled ps → Marks ps (within ps)

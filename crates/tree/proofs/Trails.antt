@@ -15,10 +15,11 @@ use Rattle.layout.specs.Bytes.{Bytes}
 use Rattle.layout.specs.Written.{says, no, Put, leftOf}
 use Rattle.layout.proofs.Tidied.{zero-one}
 use Rattle.layout.proofs.Writing.{refusal, no-room, done}
+use Rattle.tree.specs.Facts.{Ruled, Kept, Listing}
 use Rattle.tree.specs.Listed.{times, Every, none, more}
-use Rattle.tree.specs.Table.{Table, tableAt, Ruled, Kept}
+use Rattle.tree.specs.Table.{Table, tableAt}
 use Rattle.tree.specs.Way.{within, Walk}
-use Rattle.tree.specs.Path.{pathOf, joined, endsFrom, Listing, pathsSaid, endsSaid, AllPaths}
+use Rattle.tree.specs.Path.{pathOf, joined, endsFrom, pathsSaid, endsSaid, AllPaths}
 use Rattle.tree.specs.Says.{Walks}
 use Rattle.tree.proofs.Counts.{hit, pigeon}
 use Rattle.tree.proofs.Routes.{path-short}

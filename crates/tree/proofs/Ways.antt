@@ -11,7 +11,8 @@ use borrow.Author.Tests.{eq-eqb, ne-eqb, eqb-false}
 use lib.ListN.{length, length-append}
 use lib.Dec.{eqb}
 use Rattle.layout.specs.Answer.{pick}
-use Rattle.tree.specs.Table.{parent, Ruled}
+use Rattle.tree.specs.Facts.{Ruled}
+use Rattle.tree.specs.Table.{parent}
 use Rattle.tree.specs.Way.{climbed, fromRoot, way, depth, Left, here, there, stops, Before, higher, beside, Walk}
 use Rattle.tree.proofs.Counts.{equal}
 use Rattle.tree.proofs.Alone.{unique}

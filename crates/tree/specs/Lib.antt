@@ -3,4 +3,5 @@ pub mod Listed
 pub mod Way
 pub mod Path
 pub mod Says
+pub mod Facts
 pub mod Kids

@@ -2,16 +2,16 @@
 -- Assumes nothing.
 use mathlib.Core.Path.{_≡_}
 use mathlib.Core.List.{List, [], _∷_, _++_}
-use Prim.Native.Nat.{ℕ, _+_, _≤_, _<_}
+use Prim.Native.Nat.{ℕ, _+_}
 use lib.Dec.{leb, ltb}
 use lib.ListN.{length}
 use Rattle.layout.specs.Answer.{Answer, got, refused, bare, pick}
 use Rattle.layout.specs.Written.{Said, says, no, Wrote, spelling, leftOf}
 use Rattle.wire.specs.Utf8.{utf8At}
-use Rattle.tree.specs.Table.{Table, nameBytes, Kept, tableAt}
-use Rattle.tree.specs.Listed.{Every}
+use Rattle.tree.specs.Table.{Table, nameBytes, tableAt}
 use Rattle.tree.specs.Way.{fromRoot, within, Walk}
 
+-- the name of a place
 unfoldable pub nameOf : List ℕ → List ℕ → ℕ → List ℕ
 nameOf es ns k = spelling (utf8At (nameBytes es ns k) 0)
 
@@ -32,12 +32,6 @@ joined ps es ns (k ∷ l) = pathOf ps es ns k ++ joined ps es ns l
 unfoldable pub endsFrom : ℕ → List ℕ → List ℕ → List ℕ → List ℕ → List ℕ
 endsFrom at ps es ns [] = []
 endsFrom at ps es ns (k ∷ l) = (at + length (pathOf ps es ns k)) ∷ endsFrom (at + length (pathOf ps es ns k)) ps es ns l
-
--- places of a table that keeps its rule, at most 1,024 of them
-pub record Listing (ps es ns l : List ℕ) : Type 0 where
-  pub kept : Kept ps es ns
-  pub places : Every (λ k. k < length ps) l
-  pub few : length l ≤ 1024
 
 -- ── what is said ──
 

@@ -2,7 +2,8 @@
 ghost use Prim.Native.Nat.{_+_, _≤_, _<_};
 ghost use lib.ListN.{length};
 ghost use Rattle.layout.specs.Written.{Put};
-ghost use Rattle.tree.specs.Table.{table, Ruled};
+ghost use Rattle.tree.specs.Facts.{Ruled};
+ghost use Rattle.tree.specs.Table.{table};
 ghost use Rattle.tree.specs.Kids.{kids};
 ghost use Rattle.tree.specs.Way.{within};
 ghost use Rattle.tree.specs.Says.{Walks, OrderSays};
