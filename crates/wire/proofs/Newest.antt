@@ -2,7 +2,7 @@
 -- Assumes nothing.
 use mathlib.Core.Path.{_≡_, refl, ap, sym, _∙_, subst}
 use mathlib.Core.Bool.{Bool, true, false}
-use mathlib.Core.List.{List, [], _∷_}
+use mathlib.Core.List.{List}
 use Prim.Native.Nat.{ℕ, _+_, _≤_}
 use native.Mathlib.Omega.{arith}
 use lib.ListN.{length}
@@ -17,7 +17,7 @@ use Rattle.wire.specs.declared.property.PropInfo.{PropInfo}
 use Rattle.wire.specs.Layout.{Property, Reading}
 use Rattle.wire.specs.Newer.{fills, fresh, present, newerFrom, newerOf}
 use Rattle.wire.specs.Property.{propertyAt, propertyIn}
-use Rattle.wire.proofs.Described.{properties, extent, form-parts}
+use Rattle.wire.proofs.Described.{properties, property-parts}
 use Rattle.wire.proofs.Formats.{property-format}
 
 -- what was read ends within the bytes
@@ -31,7 +31,7 @@ read-within s h x n e = of (subst (Sound Property s 0) (sym (properties .agrees 
 current-within : (s : List ℕ) → Bytes s → (x : PropInfo) (n : ℕ) → propertyAt s 0 ≡ got x n → x .current .start + x .current .len ≤ length s
 current-within s h x n e = go (propertyAt s 0) (properties .inside s 0) e
   where
-    go : (y : Answer PropInfo) → Lies (λ z. extent (z .«factory_default») ∷ extent (z .current) ∷ form-parts (z .form)) 0 y → y ≡ got x n → x .current .start + x .current .len ≤ length s
+    go : (y : Answer PropInfo) → Lies property-parts 0 y → y ≡ got x n → x .current .start + x .current .len ≤ length s
     go (got z m) (lies z′ m′ k i) f =
         let same : z ≡ x = cc in
         let stop : m ≡ n = cc in
