@@ -3,19 +3,23 @@
 use mathlib.Core.Path.{_≡_, refl, sym, ap, _∙_}
 use mathlib.Core.Bool.{Bool, true, false}
 use mathlib.Core.List.{List, [], _∷_, _++_}
-use Prim.Native.Nat.{ℕ, zero, suc, _+_, _-_, _≤_, _<_}
+use Prim.Native.Nat.{ℕ, zero, suc, _+_, _-_, _^_, _≤_, _<_}
 use native.Mathlib.Omega.{arith}
 use borrow.Author.Tests.{leb-true, leb-false, eqb-true, lt-ltb, le-ltb, ltb-false}
 use lib.Dec.{leb, ltb, eqb}
-use lib.ListN.{length, take, drop, length-append, length-drop}
+use lib.ListN.{length, take, drop, length-append, length-drop, take-append-drop}
 use lib.Seq.{length-take-le, take-append-le, drop-append-le}
 use Rattle.layout.specs.Answer.{Answer, got, refused, pick, after, means, spanAt, fieldAt}
-use Rattle.layout.specs.Bytes.{number}
+use Rattle.layout.specs.Bytes.{Bytes, number}
 use Rattle.layout.proofs.Accepted.{Accepts, accepts-after, accepts-pick, accepts-field}
 use Rattle.layout.proofs.Make.{Spanned, there, short, spanned, span-there}
+use Rattle.layout.proofs.Numbers.{Bytes-take}
 use Rattle.layout.proofs.Tidied.{zero-one}
 use Rattle.wire.specs.Places.{numAt}
 use Rattle.wire.specs.Container.{containerAt}
+use Rattle.wire.proofs.Contained.{Boxed, container-stands, container-small}
+use Rattle.recording.specs.declared.Content.{Content}
+use Rattle.recording.specs.declared.Content.the-variants as content
 use Rattle.recording.specs.declared.Record.{Record}
 use Rattle.recording.specs.Record.{limit, begins, contentAt, bodyAt, recordOf}
 use Rattle.recording.proofs.Recorded.{body-13, body-14, body-there}
@@ -34,15 +38,23 @@ unfolding means
 accepts-means P Q f (got a n) h k = k a n h
 accepts-means P Q f (refused t) h k = tt
 
+-- nothing is asked
+any : {A : Type 0} (x : Answer A) → Accepts (λ _ _. Unit {0}) x
+any (got a n) = tt
+any (refused t) = tt
+
+accepts-both : {A : Type 0} (P Q : A → ℕ → Type 0) (x : Answer A) → Accepts P x → Accepts Q x → Accepts (λ a n. P a n × Q a n) x
+accepts-both P Q (got a n) h k = (h, k)
+accepts-both P Q (refused t) h k = tt
+
+length-take-most : (n : ℕ) (s : List ℕ) → length (take n s) ≤ length s
+length-take-most n s = let e = ap length (take-append-drop n s) in omega (arith, length-append (take n s) (drop n s))
+
 content-ends : (kind : ℕ) (s : List ℕ) (at : ℕ) → Accepts (λ c n. n ≡ length s) (contentAt kind s at)
 unfolding contentAt
 content-ends kind s at =
     accepts-pick _ (eqb kind 3) _ _ (λ _. refl)
     (λ _. accepts-after (λ _ _. Unit {0}) _ (containerAt s at) _ (any (containerAt s at)) λ x n _. accepts-pick _ (eqb n (length s)) _ _ (λ e. eqb-true n (length s) e) (λ _. tt))
-  where
-    any : {A : Type 0} (x : Answer A) → Accepts (λ _ _. Unit {0}) x
-    any (got a n) = tt
-    any (refused t) = tt
 
 pub record-stands : (s : List ℕ) → Accepts (Stands s) (recordOf s)
 unfolding recordOf bodyAt
@@ -64,6 +76,37 @@ record-stands s =
     spans : (b n : ℕ) (x : Answer (Unit {0})) → Spanned b n s b x → Accepts (λ _ next. (n ≤ length s - b) × (next ≡ b + n)) x
     spans b n (got u p) (there h) = (h, refl)
     spans b n (refused u) (short h) = tt
+
+-- what it holds has numbers of four bytes, and a payload within
+abbrev pub Small : List ℕ → Content → Type 0
+Small s content.Note = Unit {0}
+Small s (content.Holds x) = (x .number < 256 ^ 4) × (x .payload .count ≤ length s)
+
+content-small : (kind : ℕ) (s : List ℕ) → Bytes s → (at : ℕ) → Accepts (λ c n. Small s c) (contentAt kind s at)
+unfolding contentAt
+content-small kind s h at =
+    accepts-pick _ (eqb kind 3) _ _ (λ _. tt)
+    (λ _.
+    accepts-after (λ x n. (x .number < 256 ^ 4) × Boxed s at x n) _ (containerAt s at) _ (accepts-both _ _ (containerAt s at) (container-small s h at) (container-stands s at)) λ x n p.
+    accepts-pick _ (eqb n (length s)) _ _ (λ _. (p .0, omega (arith, p .1 .till, p .1 .within))) (λ _. tt))
+
+pub record-small : (s : List ℕ) → Bytes s → Accepts (λ x n. Small s (x .content)) (recordOf s)
+unfolding recordOf bodyAt
+record-small s h =
+    accepts-after _ _ (numAt 4 s 0) _ (any (numAt 4 s 0)) λ len a p.
+    accepts-after _ _ (numAt 2 s a) _ (any (numAt 2 s a)) λ kind b q.
+    accepts-pick _ (begins len kind) _ _
+    (λ _.
+    accepts-pick _ (leb (len - 6) limit) _ _
+    (λ _.
+    accepts-after _ _ (spanAt b (len - 6) s b) _ (any (spanAt b (len - 6) s b)) λ _ next r.
+    accepts-means _ _ _ (contentAt kind (take next s) b) (content-small kind (take next s) (Bytes-take next s h) b) λ c n e. wider next c e)
+    (λ _. tt))
+    (λ _. tt)
+  where
+    wider : (next : ℕ) (c : Content) → Small (take next s) c → Small s c
+    wider next content.Note e = tt
+    wider next (content.Holds x) e = (e .0, omega (arith, e .1, length-take-most next s))
 
 -- ── fuel ──
 
