@@ -1,0 +1,124 @@
+"""Which questions are left out of the oracle's comparison, and the row of docs/DIFFERENCES.md each rule stands for.
+
+A rule tests the question, never an answer.
+"""
+
+import os
+import sys
+
+sys.path.insert(0, os.path.join(os.path.dirname(os.path.abspath(__file__)), "..", "model"))
+
+import ask
+import tree
+import values
+from containers import COMMAND, EVENT, HEADER, MOST_PARAMETERS, RESPONSE
+
+LAST_NUMBER = 0xFFFFFFFF
+MALFORMED = "malformed"
+# The Rust's walk copies every subtree: of names longer than this in all it would hold a gigabyte.
+MOST_NAME_BYTES = 100_000
+
+# What the port adds has no answer of the Rust's.
+ADDED = {
+    "tidy-device": "D1", "tidy-object": "D1", "tidy-storage": "D1", "tidy-property": "D1",
+    "record": "D2", "write-record": "D2", "listing": "D2",
+    "nth": "D3", "list": "D3", "step": "D3", "newer": "D3",
+    "write-string": "D4",
+    MALFORMED: "D15",
+}
+
+
+def words_of(line):
+    """The question's words, read as docs/ASK.md says."""
+    question, *words = line.split(" ")
+    readers, _ = ask.QUESTIONS[question]
+    return [read(word) for read, word in zip(readers, words)]
+
+
+def row_for(group, line):
+    """The row that leaves this question out, or None: the oracle must answer it."""
+    if group in ADDED:
+        return ADDED[group]
+    rule = RULES.get(group)
+    return rule(*words_of(line)) if rule else None
+
+
+def tidy_value(code, data, room):
+    return "D4" if code == values.STRING else None
+
+
+def item(code, index, at, data):
+    return "D12" if values.item_code(code) is None else None
+
+
+def write_array(code, items, room):
+    item = values.item_code(code)
+    return "D12" if item is None or len(items) % values.WIDTHS[item] else None
+
+
+def end(at, data):
+    return "D13" if at > len(data) else None
+
+
+def number_at(data, at, width):
+    return int.from_bytes(data[at:at + width], "little")
+
+
+def is_container(data, at):
+    """A whole header with a kind: then the Rust looks at the announced length."""
+    return len(data) - at >= HEADER and COMMAND <= number_at(data, at + 4, 2) <= EVENT
+
+
+def header(data, at=0):
+    return "D5" if is_container(data, at) and number_at(data, at, 4) < HEADER else None
+
+
+def container(data, at=0):
+    if is_container(data, at) and number_at(data, at, 4) > len(data) - at:
+        return "D6"
+    return header(data, at)
+
+
+def answer(number, data):
+    """Container by container, up to the one at which the search stops."""
+    if number == LAST_NUMBER:
+        return "D8"
+    at = 0
+    while True:
+        if at == len(data):
+            return "D7"
+        if container(data, at) or not is_container(data, at):
+            return container(data, at)
+        if number_at(data, at + 8, 4) != number or number_at(data, at + 4, 2) == RESPONSE:
+            return None
+        at += number_at(data, at, 4)
+
+
+def write_container(kind, *words):
+    return None if COMMAND <= kind <= EVENT else "D14"
+
+
+def command(state, code, parameters, *words):
+    if len(parameters) > MOST_PARAMETERS:
+        return "D9"
+    return "D8" if state == LAST_NUMBER else None
+
+
+def call(name, state, *words):
+    return "D8" if state == LAST_NUMBER else None
+
+
+def on_tree(handles, parents, ends, names, *words):
+    if len(handles) > tree.MOST_OBJECTS:
+        return "D10"
+    if len(names) > MOST_NAME_BYTES:
+        return "D16"
+    return None if tree.has_rule(tree.Table(handles, parents, ends, names)) else "D11"
+
+
+RULES = {
+    "tidy-value": tidy_value, "item": item, "write-array": write_array, "end": end,
+    "header": header, "container": container, "write-container": write_container,
+    "command": command, "command-data": command, "call": call, "answer": answer,
+    "walk": on_tree, "path": on_tree, "paths": on_tree,
+}

@@ -1,0 +1,49 @@
+-- The promises determine the answer: two answers that a promise allows for the same table are equal.
+-- Of an accepted table both hold its walk, of which there is one; the tables that are accepted are not those that are refused.
+-- Assumes nothing.
+use mathlib.Core.Path.{_≡_, sym, ap, _∙_}
+use mathlib.Core.List.{List, _++_}
+use Prim.Native.Nat.{ℕ}
+use lib.ListN.{length, drop}
+use Rattle.layout.specs.Answer.{Told}
+use Rattle.layout.proofs.Determined.{Tells}
+use Rattle.layout.proofs.Tidied.{zero-one}
+use Rattle.tree.specs.Table.{Table}
+use Rattle.tree.specs.Way.{within}
+use Rattle.tree.specs.Says.{saysChecked, Walks, OrderSays, order, no-order}
+use Rattle.tree.specs.declared.Checked.the-variants as checked
+use Rattle.tree.specs.declared.Order.{Order}
+use Rattle.tree.proofs.Ways.{one-walk}
+
+pub tells-checked : Tells saysChecked
+tells-checked (checked.Whole n) (checked.Whole m) e = cc
+tells-checked (checked.Whole n) (checked.Refused t) e = zero-one (cc)
+tells-checked (checked.Refused t) (checked.Whole n) e = zero-one (cc)
+tells-checked (checked.Refused t) (checked.Refused u) e = cc
+
+module _ {ps old : List ℕ} {r s : ℕ} {l m : List ℕ} (p : Walks ps old r l) (q : Walks ps old s m) where
+  pub lists : p .list ≡ q .list
+  lists = one-walk ps (within ps) (p .list) (q .list) (p .walk) (q .walk)
+
+  pub counts : r ≡ s
+  counts = p .count ∙ ap length lists ∙ sym (q .count)
+
+  pub places : l ≡ m
+  places = p .places ∙ ap (λ (x : List ℕ). x ++ drop (length x) old) lists ∙ sym (q .places)
+
+abbrev made : ℕ → ℕ → List ℕ → Order
+made a b c = record { refusal = a; count = b; places = c }
+
+orders : (r s : Order) → r .refusal ≡ s .refusal → r .count ≡ s .count → r .places ≡ s .places → r ≡ s
+orders r s a b c =
+    ap (λ (x : ℕ). made x (r .count) (r .places)) a
+    ∙ ap (λ (x : ℕ). made (s .refusal) x (r .places)) b
+    ∙ ap (made (s .refusal) (s .count)) c
+
+pub one-order : (t : Table) (r s : Order) → OrderSays t r → OrderSays t s → r ≡ s
+one-order t r s (order a e w) (order b f v) = orders r s (e ∙ sym f) (counts w v) (places w v)
+one-order t r s (order a e w) (no-order b f g h) = zero-one (cc)
+one-order t r s (no-order a e g h) (order b f w) = zero-one (cc)
+one-order t r s (no-order {why = x} a e g h) (no-order {why = y} b f i j) =
+    let same : x ≡ y = cc in
+    orders r s (e ∙ ap (λ (z : Told). z .no) same ∙ sym f) (g ∙ sym i) (h ∙ sym j)

@@ -1,0 +1,20 @@
+// The object table: its rule, its walk and its paths. What is right is in specs/.
+mod queue;
+mod table;
+
+use layout::Refusal;
+pub use queue::walk;
+pub use table::check_table;
+
+// How many there are.
+pub enum Checked {
+    Whole(usize),
+    Refused(Refusal),
+}
+
+// The first `count` of `places`, the others are 0; or why there is none (0 for none), with no places.
+pub struct Order {
+    pub refusal: u8,
+    pub count: usize,
+    pub places: [u16; 1024],
+}

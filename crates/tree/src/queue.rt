@@ -1,0 +1,73 @@
+// The walk of a table, breadth first, by a fixed queue.
+ghost use mathlib.Core.Path.{_≡_};
+ghost use Prim.Native.Nat.{_+_, _≤_, _<_};
+ghost use lib.ListN.{length};
+ghost use Rattle.layout.specs.Written.{Put};
+ghost use Rattle.tree.specs.Table.{table, Ruled};
+ghost use Rattle.tree.specs.Kids.{kids};
+ghost use Rattle.tree.specs.Way.{within};
+ghost use Rattle.tree.specs.Says.{Walks, OrderSays};
+use crate::Checked;
+use crate::Order;
+use crate::table;
+
+// Puts the places whose parent is `p` behind the first `count`.
+fn add_kids(parents: &[u16], p: usize, places: &mut [u16], count: usize) -> usize
+    requires { ⌜ length (now parents) ≤ 1024 ⌝ }
+    requires { ⌜ p < length (now parents) ⌝ }
+    requires { ⌜ count + length (kids (now parents) (within (now parents)) p) ≤ length (now places) ⌝ }
+    ensures { λ r. ⌜ Put (now (places .entry)) count (kids (now (parents .entry)) (within (now (parents .entry))) p) (now (places .exit)) r ⌝ }
+{
+    let mut n = count;
+    let mut k = p + 1;
+    while k < parents.len() {
+        if parents[k] as usize == p {
+            places[n] = k as u16;
+            n += 1;
+        }
+        k += 1;
+    }
+    n
+}
+
+// The places of a table that keeps its rule: `places` is the queue, whose first `i` are done.
+pub(crate) fn walk_ruled(parents: &[u16], places: &mut [u16]) -> usize
+    requires { ⌜ Ruled (now parents) ⌝ }
+    requires { ⌜ length (now parents) ≤ length (now places) ⌝ }
+    ensures { λ r. ⌜ Walks (now (parents .entry)) (now (places .entry)) r (now (places .exit)) ⌝ }
+{
+    places[0] = 0;
+    let mut count: usize = 1;
+    let mut i: usize = 0;
+    while i < count {
+        let p = places[i] as usize;
+        count = add_kids(parents, p, places, count);
+        i += 1;
+    }
+    count
+}
+
+// The walk of a table, or its refusal.
+pub fn walk(handles: &[u32], parents: &[u16], ends: &[u32], names: &[u8]) -> Order
+    ensures { λ r. ⌜ OrderSays (table (now (handles .entry)) (now (parents .entry)) (now (ends .entry)) (now (names .entry))) r ⌝ }
+{
+    let mut places = [0u16; 1024];
+    match table::check_table(handles, parents, ends, names) {
+        Checked::Whole(_) => {
+            let count = walk_ruled(parents, &mut places);
+            Order {
+                refusal: 0,
+                count,
+                places,
+            }
+        }
+        Checked::Refused(f) => {
+            let refusal = f.no;
+            Order {
+                refusal,
+                count: 0,
+                places,
+            }
+        }
+    }
+}

@@ -1,0 +1,37 @@
+-- `wire::utf8::point_at`: a unit that is no high surrogate, a last one, or a pair. Assumes nothing.
+use native.Mathlib.Omega.{arith}
+use borrow.Author.Needs.{needs}
+use Rattle.wire.proofs.Points.{alone, last, pair}
+use Rattle.wire.proofs.utf8.point_at.Statement.{statement}
+use Rattle.wire.proofs.utf8.point_at.Tie as tie
+
+returns : tie.Need-returns
+returns c =
+    let k = c .before .before .before in
+    alone (k .args .s .now) (k .args .at) (k .args .left) (c .before .word .result) (k .pre .0) (c .before .word .ensures .0) (c .before .word .ensures .1) (c .if1 .taken)
+
+returns-2 : tie.Need-returns-2
+returns-2 c =
+    let k = c .before .before .before .before in
+    let w = c .before .before .word in
+    last (k .args .s .now) (k .args .at) (k .args .left) (w .result) (k .pre .0) (w .ensures .0) (w .ensures .1) (c .if2 .taken)
+
+returns-3 : tie.Need-returns-3
+returns-3 c =
+    let k = c .before .before .before .before .before in
+    let w = c .before .before .before .word in
+    pair (k .args .s .now) (k .args .at) (k .args .left) (w .result) (k .pre .0) (w .ensures .0) (w .ensures .1) (c .word2 .result) (c .word2 .ensures .0) (c .before .before .if1 .left) (c .before .if2 .left)
+
+pub point-at-spec : {M : Type 1} → statement M
+point-at-spec =
+    tie.close
+    (tie.spec
+    (λ c κs. search needs)
+    returns
+    returns-2
+    (λ c. search needs)
+    (λ c κs. search needs)
+    (λ c. search needs)
+    (λ c. search needs)
+    (λ c. search needs)
+    returns-3)

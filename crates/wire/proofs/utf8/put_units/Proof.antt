@@ -1,0 +1,50 @@
+-- `wire::utf8::put_units`: the loop owes the bytes of the units that are left. Assumes nothing.
+use mathlib.Core.Path.{_≡_, refl, ap}
+use Prim.Native.Nat.{_≤_, _+_, _*_}
+use native.Mathlib.Omega.{arith}
+use borrow.Author.Needs.{needs}
+use lib.ListN.{length, drop, length-append}
+use Rattle.layout.specs.Bytes.{cells}
+use Rattle.layout.proofs.Writing.{Owes, start, part, end, roomy}
+use Rattle.wire.specs.Utf8.{encoded, utf8}
+use Rattle.wire.proofs.Points.{utf8-step, utf8-none, encoded-stored}
+use Rattle.wire.proofs.utf8.put_units.Statement.{statement}
+use Rattle.wire.proofs.utf8.put_units.Tie as tie
+
+abbrev Inv-loop : tie.InvT-loop
+Inv-loop s start count out₀ o at₀ left₀ next₀ out at left next =
+    Owes out next (utf8 (cells 2 left (drop at s))) out₀ o (utf8 (cells 2 count (drop start s))) × (at + left * 2 ≡ start + count * 2) × (left ≤ count) × (o ≤ next)
+
+abbrev μ-loop : tie.MeasureT-loop
+μ-loop s start count out₀ o at₀ left₀ next₀ out at left next = left
+
+loop-again : tie.Need-loop-again Inv-loop μ-loop
+loop-again c =
+    let b = c .before .before .before in
+    let p = b .before .before .before .point-at in
+    let l = b .before .before .before .before .before .loop in
+    let step = utf8-step (p .ensures) in
+    let size = simp length-append at (ap length step) in
+    let pre = b .before .before .before .before .before .before .before .before .pre .1 in
+    let stored = rw (b .before .point-len .ensures .0, b .point-bytes .ensures, encoded-stored (p .result .value) (p .ensures .small)) at (c .before .before .store .ensures) in
+    let written = roomy (encoded (p .result .value)) stored (omega (arith, l .inv .0 .place, l .inv .0 .long)) in
+    (part step (l .inv .0) written, omega (arith, p .ensures .there), omega arith, omega (arith, written .place))
+
+pub put-units-spec : {M : Type 1} → statement M
+put-units-spec =
+    tie.close
+    (tie.spec
+    Inv-loop
+    μ-loop
+    (λ c. (start, refl, omega arith, omega arith))
+    (λ c κs. search needs)
+    (λ c κs. search needs)
+    (λ c κs. search needs)
+    (λ c κs. search needs)
+    (λ c. omega arith)
+    (λ c. omega arith)
+    (λ c. omega arith)
+    (λ c. omega arith)
+    loop-again
+    (λ c. c .before .loop .inv .0 .long)
+    (λ c. end (utf8-none (c .before .before .before .before .args .s .now) (c .before .loop .at) (c .before .loop .left) (c .loop-test .left)) (c .before .loop .inv .0)))

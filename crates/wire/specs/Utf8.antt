@@ -1,0 +1,48 @@
+-- Strings in UTF-8: the code points of paired UTF-16 units, each in 1 to 4 bytes.
+-- Assumes nothing.
+use mathlib.Core.Path.{_≡_}
+use mathlib.Core.List.{List, [], _∷_, _++_}
+use Prim.Native.Nat.{ℕ, _+_, _-_, _*_, _/_, _%_, _≤_, _<_}
+use lib.Dec.{ltb}
+use lib.ListN.{drop}
+use Rattle.layout.specs.Answer.{Reader, pick, means}
+use Rattle.layout.specs.Bytes.{cells}
+use Rattle.wire.specs.Layout.{high}
+use Rattle.wire.specs.Places.{textAt, itemsIn}
+use Rattle.wire.specs.declared.utf8.Point.{Point}
+
+-- UTF-16: a high surrogate and the low one after it are one code point, of the ten low bits of each; every other unit is one by itself
+abbrev pub pairPoint : ℕ → ℕ → ℕ
+pairPoint u v = 0x10000 + u % 1024 * 1024 + v % 1024
+
+unfoldable pub points : List ℕ → List ℕ
+points [] = []
+points (u ∷ []) = u ∷ []
+points (u ∷ v ∷ us) = pick (high u) (pairPoint u v ∷ points us) (u ∷ points (v ∷ us))
+
+-- UTF-8: seven bits in one byte; then six in each byte but the first, which says how many there are
+unfoldable pub encoded : ℕ → List ℕ
+encoded c =
+    pick (ltb c 0x80) (c ∷ [])
+    (pick (ltb c 0x800) ((0xC0 + c / 64) ∷ (0x80 + c % 64) ∷ [])
+    (pick (ltb c 0x10000) ((0xE0 + c / 4096) ∷ (0x80 + c / 64 % 64) ∷ (0x80 + c % 64) ∷ [])
+    ((0xF0 + c / 262144) ∷ (0x80 + c / 4096 % 64) ∷ (0x80 + c / 64 % 64) ∷ (0x80 + c % 64) ∷ [])))
+
+unfoldable pub encodedAll : List ℕ → List ℕ
+encodedAll [] = []
+encodedAll (c ∷ cs) = encoded c ++ encodedAll cs
+
+unfoldable pub utf8 : List ℕ → List ℕ
+utf8 us = encodedAll (points us)
+
+-- the string at a place
+unfoldable pub utf8At : Reader (List ℕ)
+utf8At s at = means (λ p. utf8 (itemsIn 2 s p)) (textAt s at)
+
+-- ── inside: the first code point of the units that are left, and how many units it takes ──
+
+pub record Leads (s : List ℕ) (at left : ℕ) (r : Point) : Type 0 where
+  pub first : points (cells 2 left (drop at s)) ≡ r .value ∷ points (cells 2 (left - r .units) (drop (at + r .units * 2) s))
+  pub some : 0 < r .units
+  pub there : r .units ≤ left
+  pub small : r .value < 0x110000

@@ -1,0 +1,161 @@
+// Strings in UTF-8. Two passes: measure, then put.
+ghost use mathlib.Core.Path.{_≡_};
+ghost use Prim.Native.Nat.{_-_, _*_, _≤_, _<_};
+ghost use lib.ListN.{length, drop};
+ghost use Rattle.layout.specs.Answer.{means};
+ghost use Rattle.layout.specs.Bytes.{number, cells};
+ghost use Rattle.layout.specs.Written.{Put, Wrote, saidOf, spelling, roomed, saysWritten};
+ghost use Rattle.wire.specs.Tidy.{saysMeasured};
+ghost use Rattle.wire.specs.Utf8.{encoded, utf8, utf8At, Leads};
+use crate::Cursor;
+use crate::ReadPart;
+use crate::Span;
+use crate::field;
+use crate::write::Measured;
+use layout::Written;
+
+// A code point, and how many units it takes.
+struct Point {
+    value: u64,
+    units: usize,
+}
+
+// The first code point of so many units that are left at a place.
+fn point_at(s: &[u8], at: usize, left: usize) -> Point
+    requires { ⌜ (0 < left) × (left * 2 ≤ length (now s) - at) ⌝ }
+    ensures { λ r. ⌜ Leads (now (s .entry)) at left r ⌝ }
+{
+    let u = field::word(s, at, 2);
+    if u / 1024 != 54 {
+        return Point { value: u, units: 1 };
+    }
+    if left == 1 {
+        return Point { value: u, units: 1 };
+    }
+    let v = field::word(s, at + 2, 2);
+    Point {
+        value: 65536 + u % 1024 * 1024 + v % 1024,
+        units: 2,
+    }
+}
+
+fn point_len(c: u64) -> usize
+    ensures { λ r. ⌜ (r ≡ length (encoded c)) × (r ≤ 4) ⌝ }
+{
+    if c < 0x80 {
+        return 1;
+    }
+    if c < 0x800 {
+        return 2;
+    }
+    if c < 0x10000 { 3 } else { 4 }
+}
+
+// The bytes of a code point as one number, the first byte lowest.
+fn point_bytes(c: u64) -> u64
+    requires { ⌜ c < 0x110000 ⌝ }
+    ensures { λ r. ⌜ r ≡ number (encoded c) ⌝ }
+{
+    if c < 0x80 {
+        return c;
+    }
+    let last = 0x80 + c % 64;
+    if c < 0x800 {
+        return 0xC0 + c / 64 + 0x100 * last;
+    }
+    let third = 0x80 + c / 64 % 64;
+    if c < 0x10000 {
+        return 0xE0 + c / 4096 + 0x100 * third + 0x10000 * last;
+    }
+    0xF0 + c / 262144 + 0x100 * (0x80 + c / 4096 % 64) + 0x10000 * third + 0x1000000 * last
+}
+
+fn units_len(s: &[u8], start: usize, count: usize) -> usize
+    requires { ⌜ count * 2 ≤ length (now s) - start ⌝ }
+    ensures { λ r. ⌜ r ≡ length (utf8 (cells 2 count (drop start (now (s .entry))))) ⌝ }
+{
+    let mut at = start;
+    let mut left = count;
+    let mut need: usize = 0;
+    while 0 < left {
+        let p = point_at(s, at, left);
+        let value = p.value;
+        let units = p.units;
+        need += point_len(value);
+        at += units * 2;
+        left -= units;
+    }
+    need
+}
+
+fn put_units(s: &[u8], start: usize, count: usize, out: &mut [u8], o: usize) -> usize
+    requires { ⌜ count * 2 ≤ length (now s) - start ⌝ }
+    requires { ⌜ length (utf8 (cells 2 count (drop start (now s)))) ≤ length (now out) - o ⌝ }
+    ensures { λ r. ⌜ Put (now (out .entry)) o (utf8 (cells 2 count (drop start (now (s .entry))))) (now (out .exit)) r ⌝ }
+{
+    let mut at = start;
+    let mut left = count;
+    let mut next = o;
+    while 0 < left {
+        let p = point_at(s, at, left);
+        let value = p.value;
+        let units = p.units;
+        next = layout::store(out, next, point_len(value), point_bytes(value));
+        at += units * 2;
+        left -= units;
+    }
+    next
+}
+
+impl Cursor {
+    // How long a string is in UTF-8, and the place after it.
+    pub fn utf8_len(self, s: &[u8]) -> Measured
+        ensures { λ r. ⌜ saysMeasured r ≡ means length (utf8At (now (s .entry)) (self .at)) ⌝ }
+    {
+        match self.text(s) {
+            ReadPart::Got(part, next) => {
+                let start = part.start;
+                let count = part.count;
+                let end = next.at;
+                Measured::Whole {
+                    tidy: units_len(s, start, count),
+                    next: end,
+                }
+            }
+            ReadPart::Refused(f) => Measured::Refused(f),
+        }
+    }
+
+    // A string in UTF-8 from a place of `out` on, and the place after it. What has no room changes nothing.
+    pub fn put_utf8(self, s: &[u8], out: &mut [u8], o: usize) -> usize
+        ensures { λ r. ⌜ Put (now (out .entry)) o (roomed (now (out .entry)) o (spelling (utf8At (now (s .entry)) (self .at)))) (now (out .exit)) r ⌝ }
+    {
+        match self.text(s) {
+            ReadPart::Got(part, _) => {
+                let start = part.start;
+                let count = part.count;
+                let need = units_len(s, start, count);
+                match field::span_at(out, o, o, need) {
+                    Span::Till(_) => put_units(s, start, count, out, o),
+                    Span::Refused(_) => o,
+                }
+            }
+            ReadPart::Refused(_) => o,
+        }
+    }
+
+    // A string in UTF-8.
+    pub fn utf8(self, s: &[u8], out: &mut [u8]) -> Written
+        ensures { λ r. ⌜ Wrote (saidOf (utf8At (now (s .entry)) (self .at))) (now (out .entry)) (saysWritten r) (now (out .exit)) ⌝ }
+    {
+        match self.utf8_len(s) {
+            Measured::Whole { tidy, next: _ } => {
+                if out.len() < tidy {
+                    return Written::Refused(layout::plain(9));
+                }
+                Written::Done(self.put_utf8(s, out, 0))
+            }
+            Measured::Refused(f) => Written::Refused(f),
+        }
+    }
+}

@@ -1,0 +1,105 @@
+"""Judges a program that lists recordings, by the model: the examples, cut and damaged recordings, and long ones.
+
+    examples/cuts.py [--seed SEED] COMMAND ..
+
+COMMAND reads a recording from standard input and writes its listing. It is given every example of this folder, a small
+recording cut at every byte, a thousand damaged ones, and some that are longer than any buffer. Each difference is
+printed, and last `COUNT compared, N differ`.
+"""
+
+import argparse
+import pathlib
+import random
+import subprocess
+import sys
+
+FOLDER = pathlib.Path(__file__).resolve().parent
+sys.path[:0] = [str(FOLDER.parent / "model"), str(FOLDER.parent / "compare")]
+
+import listing
+from bits import damaged
+from cases_recording import random_record, record, small_recording, whole
+from recording import MOST_BODY
+
+DAMAGED = 1000
+LONG_BYTES = 3_000_000
+SHOWN = 200
+
+
+def examples():
+    for path in sorted(FOLDER.glob("*.recording")):
+        yield path.stem, path.read_bytes(), path.with_suffix(".listing").read_text()
+
+
+def by_model(name, data):
+    return name, data, listing.listing(data)
+
+
+def cuts():
+    """The small recording, and the one of document 01, each cut at every byte."""
+    for name, data in (("small", small_recording()), ("two-records", (FOLDER / "two-records.recording").read_bytes())):
+        for length in range(len(data) + 1):
+            yield by_model(f"{name} cut at {length}", data[:length])
+
+
+def damaged_ones(rng):
+    """A few records, one to three things wrong with them."""
+    for count in range(DAMAGED):
+        data = b"".join(random_record(rng) for _ in range(rng.randrange(1, 9)))
+        for _ in range(rng.randrange(1, 4)):
+            data = damaged(rng, data)
+        yield by_model(f"damaged {count}", data)
+
+
+def long_record(rng):
+    """Bodies of every size, the longest more often than chance would have it."""
+    size = rng.choice([rng.randrange(60), rng.randrange(MOST_BODY - 12), MOST_BODY - 12])
+    return record(rng.choice([1, 2]), whole(rng.choice([1, 2, 3, 4]), rng.getrandbits(16), rng.getrandbits(32), bytes(size)))
+
+
+def long_recording(rng, make):
+    records, length = [], 0
+    while length < LONG_BYTES:
+        records.append(make(rng))
+        length += len(records[-1])
+    return b"".join(records)
+
+
+def long_ones(rng):
+    """Longer than any buffer: records of all sizes, short ones only, the shortest only; whole, cut, and with a byte too many."""
+    makers = {"all sizes": long_record, "short": random_record, "shortest": lambda rng: record(3, b"")}
+    for name, make in makers.items():
+        data = long_recording(rng, make)
+        yield by_model(f"long, {name}", data)
+        yield by_model(f"long, {name}, cut", data[:-3])
+        yield by_model(f"long, {name}, and a byte", data + b"\x00")
+
+
+def all_cases(seed):
+    rng = random.Random(seed)
+    yield from examples()
+    yield from cuts()
+    yield from damaged_ones(rng)
+    yield from long_ones(rng)
+
+
+def main():
+    parser = argparse.ArgumentParser(description="judge a program that lists recordings")
+    parser.add_argument("--seed", default="1")
+    parser.add_argument("command", nargs=argparse.REMAINDER)
+    given = parser.parse_args()
+    if not given.command:
+        parser.error("no command given")
+    count = differ = 0
+    for name, data, expected in all_cases(given.seed):
+        run = subprocess.run(given.command, input=data, stdout=subprocess.PIPE)
+        count += 1
+        if run.returncode != 0 or run.stdout.decode("latin-1") != expected:
+            differ += 1
+            print(f"differs: {name}, status {run.returncode}, {data[:SHOWN].hex()}")
+    print(f"{count} compared, {differ} differ")
+    return 1 if differ else 0
+
+
+if __name__ == "__main__":
+    sys.exit(main())

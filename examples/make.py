@@ -1,0 +1,165 @@
+"""Makes the recordings of this folder, and their listings, from the descriptions beside it (*.txt).
+
+    examples/make.py            writes NAME.recording and NAME.listing for each `recording NAME`
+    examples/make.py --check    writes nothing, and fails where a file is not what its description says
+
+A listing's lines are made from the description, line by line, not by reading the recording. Then the model, which
+reads the bytes, must give the same listing. No code of the crates takes part.
+
+A description's lines, each one record (a line that begins with a space goes on with the one before, # begins a comment):
+
+    out|in KIND CODE NUMBER FIELD ..    a container, sent or received; CODE is a name, or 0x and four digits
+    note "TEXT"  or  note FIELD ..      an operator's note
+    raw FIELD .. refusal NO             bytes that are refused with this number; `refusal -`: not reached any more
+
+A field is [LABEL=]TYPE:VALUE with the types u8, u16, u32, u64, string, array16, array32, hex and zeros (a count).
+"""
+
+import pathlib
+import re
+import shlex
+import sys
+from collections import namedtuple
+
+FOLDER = pathlib.Path(__file__).resolve().parent
+sys.path.insert(0, str(FOLDER.parent / "model"))
+
+import listing
+import names
+
+KINDS = {"Command": 1, "Data": 2, "Response": 3, "Event": 4}
+WAYS = {"in": 1, "out": 2}
+NOTE = 3
+FIELD = re.compile(r"(?:\w+=)?(u8|u16|u32|u64|string|array16|array32|hex|zeros):(.*)", re.DOTALL)
+
+# A line of a description made: the record's bytes, its line in the listing after the place, and whether it is whole.
+Made = namedtuple("Made", "data text whole")
+
+
+def little(number, width):
+    return number.to_bytes(width, "little")
+
+
+def string(text):
+    """A tidy string: a count of units, the last one 0; one byte 0 for the empty one."""
+    units = text.encode("utf-16-le")
+    return bytes([len(units) // 2 + 1]) + units + b"\x00\x00" if text else b"\x00"
+
+
+def array(text, width):
+    numbers = [int(word, 0) for word in text.split(",") if word]
+    return little(len(numbers), 4) + b"".join(little(number, width) for number in numbers)
+
+
+FIELD_BYTES = {
+    "u8": lambda text: little(int(text, 0), 1),
+    "u16": lambda text: little(int(text, 0), 2),
+    "u32": lambda text: little(int(text, 0), 4),
+    "u64": lambda text: little(int(text, 0), 8),
+    "string": string,
+    "array16": lambda text: array(text, 2),
+    "array32": lambda text: array(text, 4),
+    "hex": bytes.fromhex,
+    "zeros": lambda text: bytes(int(text)),
+}
+
+
+def fields(words):
+    made = []
+    for word in words:
+        kind, value = FIELD.fullmatch(word).groups()
+        made.append(FIELD_BYTES[kind](value))
+    return b"".join(made)
+
+
+def code_of(kind, word):
+    if word.startswith("0x"):
+        return int(word, 16)
+    if kind == "Response":
+        return names.FIRST_RESPONSE + names.RESPONSES.index(word)
+    return names.FIRST_COMMAND + names.COMMANDS.index(word)
+
+
+def record(kind, body):
+    return little(6 + len(body), 4) + little(kind, 2) + body
+
+
+def container_line(way, kind, code, number, *words):
+    payload = fields(words)
+    head = little(12 + len(payload), 4) + little(KINDS[kind], 2) + little(code_of(kind, code), 2) + little(int(number), 4)
+    return Made(record(WAYS[way], head + payload), f"{way} {kind} {code} {number} {len(payload)}", True)
+
+
+def note_line(_, *words):
+    is_text = len(words) == 1 and not FIELD.fullmatch(words[0])
+    body = words[0].encode("utf-8") if is_text else fields(words)
+    return Made(record(NOTE, body), f"note {len(body)}", True)
+
+
+def raw_line(_, *words):
+    *given, refusal, number = words
+    assert refusal == "refusal"
+    return Made(fields(given), None if number == "-" else f"refusal {number}", False)
+
+
+LINES = {"in": container_line, "out": container_line, "note": note_line, "raw": raw_line}
+
+
+def joined_lines(text):
+    """Lines with those that go on with them; no comments and no empty lines."""
+    lines = []
+    for line in text.splitlines():
+        if not line.strip() or line.startswith("#"):
+            continue
+        if line.startswith(" "):
+            lines[-1] += line
+        else:
+            lines.append(line)
+    return lines
+
+
+def recordings(text):
+    """Each recording's name and its lines, made."""
+    found = {}
+    for line in joined_lines(text):
+        words = shlex.split(line)
+        if words[0] == "recording":
+            made = found[words[1]] = []
+        else:
+            made.append(LINES[words[0]](*words))
+    return found
+
+
+def listing_of(lines):
+    """The listing that the description says: places and counts summed up, the records' own words as they stand there."""
+    text, place, count = listing.HEADING, 0, 0
+    for made in lines:
+        text += f"{place} {made.text}\n"
+        if not made.whole:
+            break
+        place += len(made.data)
+        count += 1
+    return f"{text}records {count} bytes {place}\n"
+
+
+def outputs():
+    """Each file's path and bytes."""
+    for description in sorted(FOLDER.glob("*.txt")):
+        for name, lines in recordings(description.read_text(encoding="utf-8")).items():
+            data, text = b"".join(made.data for made in lines), listing_of(lines)
+            if listing.listing(data) != text:
+                sys.exit(f"examples: the model lists {name} otherwise than its description says")
+            yield FOLDER / f"{name}.recording", data
+            yield FOLDER / f"{name}.listing", text.encode("ascii")
+
+
+def main():
+    if sys.argv[1:] == ["--check"]:
+        stale = [path.name for path, data in outputs() if not path.exists() or path.read_bytes() != data]
+        sys.exit(f"examples: not as described: {' '.join(stale)}" if stale else 0)
+    for path, data in outputs():
+        path.write_bytes(data)
+
+
+if __name__ == "__main__":
+    main()

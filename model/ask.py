@@ -1,0 +1,423 @@
+"""Answers the questions of `ask` (docs/ASK.md), one a line, from this model.
+
+    python3 model/ask.py < questions > answers
+"""
+
+import binascii
+import re
+import sys
+
+import containers
+import datasets
+import listing
+import names
+import recording
+import session
+import tree
+import values
+from refusals import ROOM, Refused, refuse_if
+
+LONGEST_LINE = 1_200_000
+MOST_ROOM = 1 << 20
+LONGEST_LIST = 4096
+FILLING = 0xA5
+
+NUMBER = re.compile(r"0x[0-9a-fA-F]+|[0-9]+")
+
+
+class Malformed(Exception):
+    """The question is not one of ours; its answer is `?`."""
+
+
+# Reading the words of a question.
+
+def number(word, bits):
+    if not NUMBER.fullmatch(word):
+        raise Malformed
+    digits, base = (word[2:], 16) if word.startswith("0x") else (word, 10)
+    digits = digits.lstrip("0") or "0"
+    if len(digits) > 20 or int(digits, base) >> bits:
+        raise Malformed
+    return int(digits, base)
+
+
+def u8(word):
+    return number(word, 8)
+
+
+def u16(word):
+    return number(word, 16)
+
+
+def u32(word):
+    return number(word, 32)
+
+
+def u64(word):
+    return number(word, 64)
+
+
+def room(word):
+    size = u64(word)
+    if size > MOST_ROOM:
+        raise Malformed
+    return size
+
+
+def hex_bytes(word):
+    if word == "-":
+        return b""
+    if word == "":
+        raise Malformed
+    try:
+        return binascii.unhexlify(word)
+    except ValueError:
+        raise Malformed from None
+
+
+def numbers(word, each):
+    if word == "-":
+        return []
+    words = word.split(",")
+    if len(words) > LONGEST_LIST:
+        raise Malformed
+    return [each(one) for one in words]
+
+
+def u16s(word):
+    return numbers(word, u16)
+
+
+def u32s(word):
+    return numbers(word, u32)
+
+
+def word_of(word):
+    return word
+
+
+def integer(code, word):
+    """A value of an integer type or of UNDEF, as `write-value` takes it."""
+    if code not in values.WIDTHS:
+        return undefined(code, word)
+    if values.WIDTHS[code] == 16:
+        halves = word.split(":")
+        if len(halves) != 2:
+            raise Malformed
+        return u64(halves[0]), u64(halves[1])
+    return signed(word, 8 * values.WIDTHS[code]) if code % 2 else number(word, 8 * values.WIDTHS[code])
+
+
+def undefined(code, word):
+    if word != "undef" or code == values.STRING or values.item_code(code) is not None:
+        raise Malformed
+    return values.UNDEF
+
+
+def signed(word, bits):
+    value = -number(word[1:], bits) if word.startswith("-") else number(word, bits)
+    if not -(1 << bits - 1) <= value < 1 << bits - 1:
+        raise Malformed
+    return value
+
+
+# Printing the words of an answer.
+
+def show(value):
+    if value is values.UNDEF:
+        return "undef"
+    if isinstance(value, values.Text):
+        return "s<" + ".".join(f"{unit:04x}" for unit in value) + ">"
+    if isinstance(value, list):
+        return "[" + ",".join(show(item) for item in value) + "]"
+    if isinstance(value, tuple):
+        return f"{value[0]}:{value[1]}"
+    return str(value)
+
+
+def show_all(row):
+    return " ".join(show(value) for value in row)
+
+
+def show_bytes(data):
+    return data.hex() or "-"
+
+
+def show_list(row):
+    return ",".join(map(str, row)) or "-"
+
+
+def ok(*words):
+    return " ".join(["ok", *map(str, words)])
+
+
+def laid_out(size, written):
+    """The whole output after a writer's call: what was written in front, the filling behind it."""
+    return show_bytes(written + bytes([FILLING]) * (size - len(written)))
+
+
+def writing(size, make):
+    """A writer's answer. `make` gives the bytes and the words that stand before their count."""
+    try:
+        before, written = make()
+        refuse_if(len(written) > size, ROOM)
+    except Refused as refused:
+        return f"no {refused.number} {laid_out(size, b'')}"
+    return ok(*before, len(written), laid_out(size, written))
+
+
+def writing_bytes(size, make, *words):
+    return writing(size, lambda: ((), make(*words)))
+
+
+def making(size, make, *words):
+    """A command made: its number and the session's next state come before the count."""
+    def made():
+        one = make(*words)
+        return (one.number, one.next_state), one.output
+    return writing(size, made)
+
+
+# The questions, in the order of docs/ASK.md.
+
+def name(look_up):
+    def answer(code):
+        found = look_up(code)
+        return "none" if found is None else ok(found)
+    return answer
+
+
+def value(code, at, data):
+    read, after = values.read_value(code, data, at)
+    return ok(show(read), after)
+
+
+def end(at, data):
+    values.expect_end(data, at)
+    return ok()
+
+
+def unit(index, at, data):
+    return ok(values.unit(index, data, at))
+
+
+def item(code, index, at, data):
+    return ok(show(values.item(code, index, data, at)))
+
+
+def utf8(at, data, size):
+    return writing_bytes(size, lambda: values.utf8(values.read_string(data, at)[0]))
+
+
+def write_value(code, word, size):
+    return writing_bytes(size, values.write_value, code, integer(code, word))
+
+
+def write_string(units, size):
+    return writing_bytes(size, values.write_string, units)
+
+
+def write_array(code, items, size):
+    return writing_bytes(size, values.write_array, code, items)
+
+
+def tidy_value(code, data, size):
+    return writing_bytes(size, values.tidy_value, code, data)
+
+
+def row(types):
+    def answer(data):
+        read, after = datasets.read_row(types, data)
+        return ok(after, show_all(read))
+    return answer
+
+
+def tidy_row(types):
+    return lambda data, size: writing_bytes(size, datasets.tidy_row, types, data)
+
+
+def device_property(data):
+    read = datasets.read_property(data)
+    head = [read.length, read.code, read.type, read.getset, read.enable, show(read.default), show(read.current)]
+    if read.form == datasets.RANGE_FORM:
+        return ok(*head, "range", show_all(read.values))
+    if read.form == datasets.LIST_FORM:
+        return ok(*head, "list", len(read.values), *map(show, read.values))
+    return ok(*head, "none")
+
+
+def tidy_property(data, size):
+    return writing_bytes(size, datasets.tidy_property, data)
+
+
+def nth(index, data):
+    found, start, length = datasets.nth(index, data)
+    return ok(show(found), start, length)
+
+
+def whole_list(data):
+    refusal, stepped = datasets.all_steps(data)
+    return ok(refusal, len(stepped), *map(show, stepped))
+
+
+def step(data, code, place, left, refusal):
+    stepped = datasets.step(data, datasets.ListPlace(code, place, left, refusal))
+    if stepped is None:
+        return "end"
+    found, here = stepped
+    return ok(show(found), here.place, here.left)
+
+
+def newer(description, payload):
+    part = datasets.newer(description, payload)
+    source = description if part.of == "description" else payload
+    return ok(part.of, part.start, part.length, show_bytes(source[part.start:part.start + part.length]))
+
+
+def header(data):
+    return ok(*containers.read_header(data))
+
+
+def container(data):
+    read, start = containers.read_container(data)
+    return ok(read.kind, read.code, read.number, start, read.payload_length)
+
+
+def write_container(kind, code, tid, payload, size):
+    return writing_bytes(size, containers.write_container, kind, code, tid, payload)
+
+
+def command(state, code, parameters, size):
+    return making(size, session.command, state, code, parameters)
+
+
+def command_data(state, code, parameters, payload, size):
+    return making(size, session.command_with_data, state, code, parameters, payload)
+
+
+def call(called, state, storage, wanted, handle, size):
+    if called not in session.CALLS:
+        raise Malformed
+    return making(size, session.call, called, state, storage, wanted, handle)
+
+
+def find_answer(tid, data):
+    found = session.find_answer(tid, data)
+    return ok("data" if isinstance(found, session.DataFound) else "response", *found)
+
+
+def handles(payload):
+    return ok(show_list(session.handles(payload)))
+
+
+def object_count(payload):
+    return ok(session.object_count(payload))
+
+
+def info(read):
+    return lambda payload: ok(show_all(read(payload)))
+
+
+def walk(*words):
+    return ok(show_list(tree.walk(tree.Table(*words))))
+
+
+def path(*words):
+    *table, place, size = words
+    return writing_bytes(size, tree.path, tree.Table(*table), place)
+
+
+def paths(*words):
+    *table, size = words
+    try:
+        joined, ends = tree.paths(tree.Table(*table), size)
+    except Refused as refused:
+        return f"no {refused.number} {laid_out(size, b'')}"
+    return ok(len(joined), laid_out(size, joined), show_list(ends))
+
+
+def record(data):
+    return ok(*recording.read_record(data))
+
+
+def write_record(kind, body, size):
+    return writing_bytes(size, recording.write_record, kind, body)
+
+
+def whole_listing(data):
+    return ok(listing.listing(data).replace("\n", "\\n"))
+
+
+TABLE_WORDS = (u32s, u16s, u32s, hex_bytes)
+
+# Each question: how its words are read, and who answers it.
+QUESTIONS = {
+    "response-name": ((u16,), name(names.response_name)),
+    "command-name": ((u16,), name(names.command_name)),
+    "value": ((u16, u64, hex_bytes), value),
+    "end": ((u64, hex_bytes), end),
+    "unit": ((u64, u64, hex_bytes), unit),
+    "item": ((u16, u64, u64, hex_bytes), item),
+    "utf8": ((u64, hex_bytes, room), utf8),
+    "write-value": ((u16, word_of, room), write_value),
+    "write-string": ((u16s, room), write_string),
+    "write-array": ((u16, hex_bytes, room), write_array),
+    "tidy-value": ((u16, hex_bytes, room), tidy_value),
+    "device": ((hex_bytes,), row(datasets.DEVICE)),
+    "object": ((hex_bytes,), row(datasets.OBJECT)),
+    "storage": ((hex_bytes,), row(datasets.STORAGE)),
+    "property": ((hex_bytes,), device_property),
+    "tidy-device": ((hex_bytes, room), tidy_row(datasets.DEVICE)),
+    "tidy-object": ((hex_bytes, room), tidy_row(datasets.OBJECT)),
+    "tidy-storage": ((hex_bytes, room), tidy_row(datasets.STORAGE)),
+    "tidy-property": ((hex_bytes, room), tidy_property),
+    "nth": ((u64, hex_bytes), nth),
+    "list": ((hex_bytes,), whole_list),
+    "step": ((hex_bytes, u16, u64, u16, u8), step),
+    "newer": ((hex_bytes, hex_bytes), newer),
+    "header": ((hex_bytes,), header),
+    "container": ((hex_bytes,), container),
+    "write-container": ((u16, u16, u32, hex_bytes, room), write_container),
+    "command": ((u32, u16, u32s, room), command),
+    "command-data": ((u32, u16, u32s, hex_bytes, room), command_data),
+    "call": ((word_of, u32, u32, u32, u32, room), call),
+    "answer": ((u32, hex_bytes), find_answer),
+    "handles": ((hex_bytes,), handles),
+    "storage-ids": ((hex_bytes,), handles),
+    "object-count": ((hex_bytes,), object_count),
+    "storage-info": ((hex_bytes,), info(session.storage_info)),
+    "device-info": ((hex_bytes,), info(session.device_info)),
+    "object-info": ((hex_bytes,), info(session.object_info)),
+    "walk": (TABLE_WORDS, walk),
+    "path": ((*TABLE_WORDS, u64, room), path),
+    "paths": ((*TABLE_WORDS, room), paths),
+    "record": ((hex_bytes,), record),
+    "write-record": ((u16, hex_bytes, room), write_record),
+    "listing": ((hex_bytes,), whole_listing),
+}
+
+
+def answer(line):
+    """The answer to one question, without its line end."""
+    if len(line) > LONGEST_LINE:
+        return "?"
+    question, *words = line.split(" ")
+    if question not in QUESTIONS or len(words) != len(QUESTIONS[question][0]):
+        return "?"
+    readers, ask = QUESTIONS[question]
+    try:
+        return ask(*(read(word) for read, word in zip(readers, words)))
+    except Malformed:
+        return "?"
+    except Refused as refused:
+        return f"no {refused.number}"
+
+
+def main():
+    for line in sys.stdin.buffer:
+        text = line[:-1] if line.endswith(b"\n") else line
+        sys.stdout.write(answer(text.decode("latin-1")) + "\n")
+
+
+if __name__ == "__main__":
+    main()

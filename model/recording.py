@@ -1,0 +1,46 @@
+"""Records ("Recording" of document 01): u32 length of the whole record, u16 kind, body."""
+
+from collections import namedtuple
+
+from containers import read_container
+from refusals import LONG, RECORD, TRAIL, refuse_if
+from values import read_number, take
+
+RECEIVED, SENT, NOTE = 1, 2, 3
+RECORD_HEADER = 6
+MOST_BODY = 8192
+
+Record = namedtuple("Record", "kind start length after")
+
+
+def check_kind(kind):
+    refuse_if(not RECEIVED <= kind <= NOTE, RECORD)
+
+
+def check_body(kind, body):
+    """A container in its own order, 6, and 3 for a body longer than announced. A note is any bytes."""
+    if kind == NOTE:
+        return
+    header, start = read_container(body)
+    refuse_if(start + header.payload_length < len(body), TRAIL)
+
+
+def read_record(data, at=0):
+    """1 for six bytes, 13, 14, 1 for the body, then the body's own refusals."""
+    take(data, at, RECORD_HEADER)
+    length, _ = read_number(data, at, 4)
+    kind, start = read_number(data, at + 4, 2)
+    refuse_if(length < RECORD_HEADER, RECORD)
+    check_kind(kind)
+    refuse_if(length - RECORD_HEADER > MOST_BODY, LONG)
+    body, after = take(data, start, length - RECORD_HEADER)
+    check_body(kind, body)
+    return Record(kind, start, len(body), after)
+
+
+def write_record(kind, body):
+    """By the same rules: 13, 14, the container's."""
+    check_kind(kind)
+    refuse_if(len(body) > MOST_BODY, LONG)
+    check_body(kind, body)
+    return (RECORD_HEADER + len(body)).to_bytes(4, "little") + kind.to_bytes(2, "little") + body

@@ -1,0 +1,201 @@
+"""The order of the refusals: where several conditions hold, only the first is given. And both halves of each boundary pair.
+
+Each entry is a question and the first words of its answer. The replay has them all (compare/replay.py).
+"""
+
+import unittest
+
+from ask import answer
+
+
+def repeated(word, count):
+    return ",".join([word] * count) or "-"
+
+
+def flat_walk(count):
+    """A walk of so many objects below one root, with empty names."""
+    places = ",".join(map(str, range(1, count + 1))) or "-"
+    return f"walk {places} {repeated('0', count)} {places} {'00' * count or '-'}"
+
+
+LONE = "55296"
+STORAGE_NUMBERS = "00" * 26
+OK_7 = "0c0000000300012007000000"
+EVENT_7 = "0c0000000400012007000000"
+
+ORDERS = {
+    "within a string 1 comes before 2": [
+        ("value 0xffff 0 0200d800", "no 1"),
+        ("value 0xffff 0 0200d80000", "no 2"),
+    ],
+    "the first field that fails refuses": [
+        (f"storage {STORAGE_NUMBERS}0200d8000002", "no 2"),
+        (f"storage {STORAGE_NUMBERS}0002", "no 1"),
+        (f"storage {STORAGE_NUMBERS}000200d80000", "no 2"),
+    ],
+    "an index comes after the reading": [
+        ("unit 9 0 0241", "no 1"),
+        ("unit 9 0 0200d80000", "no 2"),
+        ("unit 9 0 0241000000", "no 12"),
+        ("item 0x4002 9 0 02000000", "no 1"),
+        ("item 0x4002 9 0 020000000102", "no 12"),
+        ("item 2 9 0 -", "no 12"),
+        ("nth 9 0150", "no 1"),
+        ("nth 9 05d0ffff010100000201000200d80000", "no 2"),
+        ("nth 9 05d0ffff01010000020000", "no 12"),
+        ("nth 0 015002000001643201006401", "no 12"),
+    ],
+    "an answer that must fill its payload: 1, 3": [
+        ("handles 01000000", "no 1"),
+        ("handles 0000000001", "no 3"),
+        ("storage-ids 01000000", "no 1"),
+        ("storage-ids 0000000001", "no 3"),
+        ("object-count 000000", "no 1"),
+        ("object-count 0000000001", "no 3"),
+        (f"storage-info {STORAGE_NUMBERS}00", "no 1"),
+        (f"storage-info {STORAGE_NUMBERS}000001", "no 3"),
+        (f"device-info {'00' * 35}01", "ok 0"),
+        (f"object-info {'00' * 56}01", "ok 0"),
+    ],
+    "a string is written: 2, 10, 9; 254 and 255 units": [
+        (f"write-string {repeated('65', 255)},{LONE} 0", "no 2"),
+        (f"write-string {repeated('65', 255)} 0", "no 10"),
+        (f"write-string {repeated('65', 255)} 600", "no 10"),
+        (f"write-string {repeated('65', 254)} 510", "no 9"),
+        (f"write-string {repeated('65', 254)} 511", "ok 511"),
+        (f"value 0xffff 0 ff{'4100' * 254}0000", "ok"),
+        (f"value 0xffff 0 ff{'4100' * 254}00", "no 1"),
+    ],
+    "an array is written: 12, 10, 9": [
+        ("write-array 4 01 0", "no 12"),
+        ("write-array 0x4004 01 0", "no 10"),
+        ("write-array 0x4004 0100 5", "no 9"),
+        ("write-array 0x4004 0100 6", "ok 6"),
+    ],
+    "a tidy writer: the reading's, 9": [
+        ("tidy-value 0xffff 02 0", "no 1"),
+        ("tidy-value 0xffff 0200d80000 0", "no 2"),
+        ("tidy-value 0xffff 0241000000 4", "no 9"),
+        ("tidy-property 01 0", "no 1"),
+        ("tidy-property 01500200000164327f 8", "no 9"),
+        (f"tidy-storage {STORAGE_NUMBERS}00 0", "no 1"),
+        (f"tidy-storage {STORAGE_NUMBERS}0000 27", "no 9"),
+        ("utf8 0 0200d80000 0", "no 2"),
+        ("utf8 0 0241000000 0", "no 9"),
+    ],
+    "a header: 1, 4, 1, 5": [
+        ("header 0b000000ff", "no 1"),
+        ("header 0b0000000500", "no 4"),
+        ("header 0b000000040001", "no 1"),
+        ("header 0b00000004000000000000", "no 1"),
+        ("header 0b0000000400000000000000", "no 5"),
+        ("header 0c0000000400000000000000", "ok 4 0"),
+    ],
+    "a container: then 6; length 11 and 12": [
+        ("container 0b00000003000120070000", "no 1"),
+        ("container 0b0000000300012007000000", "no 5"),
+        (f"container {OK_7}", "ok 3 8193 7 12 0"),
+        ("container 0d0000000300012007000000", "no 6"),
+    ],
+    "a container is written: 4, 9": [
+        ("write-container 0 0 0 - 0", "no 4"),
+        ("write-container 1 0 0 - 11", "no 9"),
+        ("write-container 1 0 0 - 12", "ok 12"),
+    ],
+    "the search for an answer: the container's, 6, 7, and 8 between containers": [
+        ("answer 7 0b0000000300012008000000", "no 5"),
+        ("answer 7 0d0000000300012008000000", "no 6"),
+        ("answer 7 0c0000000300012008000000", "no 7"),
+        (f"answer 7 {EVENT_7}", "no 8"),
+        (f"answer 7 {EVENT_7}00", "no 1"),
+        ("answer 7 -", "no 8"),
+        (f"answer 7 {EVENT_7}{OK_7}", "ok data 0 0 24"),
+    ],
+    "a later Data replaces an earlier": [
+        (f"answer 7 0d0000000200000007000000410c0000000200000007000000{OK_7}", "ok data 25 0 37"),
+        (f"answer 7 0d0000000200000007000000410e00000002000000070000004243{OK_7}ff", "ok data 25 2 39"),
+    ],
+    "a command: 10, 9; 5 and 6 parameters": [
+        ("command 7 1 1,2,3,4,5 32", "ok 7 8 32"),
+        ("command 7 1 1,2,3,4,5 31", "no 9"),
+        ("command 7 1 1,2,3,4,5,6 0", "no 10"),
+        ("command 7 1 1,2,3,4,5,6 99", "no 10"),
+        ("command-data 7 1 1,2,3,4,5,6 41 0", "no 10"),
+        ("command-data 7 1 1,2,3,4,5 41 44", "no 9"),
+        ("command-data 7 1 1,2,3,4,5 41 45", "ok 7 8 45"),
+    ],
+    "after number 4,294,967,295 comes 0": [
+        ("command 4294967294 1 - 12", "ok 4294967294 4294967295 12"),
+        ("command 4294967295 1 - 12", "ok 4294967295 0 12"),
+        ("command-data 4294967295 1 - - 24", "ok 4294967295 0 24"),
+        ("call CloseSession 4294967295 0 0 0 12", "ok 4294967295 0 12"),
+        ("answer 4294967295 0c00000003000120ffffffff", "ok data 0 0 12"),
+    ],
+    "a tree: 11, each name's 1, 2, 3, then 12, 9": [
+        ("path 1,2 0,1 1,2 0002 9 0", "no 11"),
+        ("path 1,2 0,0 1,2 0002 9 0", "no 1"),
+        ("path 1,2 0,0 5,6 0200d8000002 9 0", "no 2"),
+        ("path 1,2 0,0 6,11 0041000000000200d80000 9 0", "no 3"),
+        ("path 1,2 0,0 1,6 000241000000 2 0", "no 12"),
+        ("path 1,2 0,0 1,6 000241000000 1 0", "no 9"),
+        ("paths 1,2 0,1 1,6 000241000000 0", "no 11"),
+        ("paths 1,2 0,0 1,2 0002 0", "no 1"),
+        ("paths 1,2 0,0 1,6 000241000000 0", "no 9"),
+    ],
+    "1 and 1,024 objects, 0 and 1,025": [
+        (flat_walk(0), "no 11"),
+        (flat_walk(1), "ok 0"),
+        (flat_walk(1024), "ok " + ",".join(map(str, range(1024)))),
+        (flat_walk(1025), "no 11"),
+    ],
+    "a slash only after a path that is not empty": [
+        ("path 1,2,3 0,0,1 1,2,7 00000241000000 2 1", "ok 1 41"),
+        ("path 1,2,3 0,0,1 5,6,11 0242000000000241000000 2 4", "ok 4 422f2f41"),
+    ],
+    "a record: 1, 13, 14, 1, the container's, 6, 3": [
+        ("record 0500000009", "no 1"),
+        ("record 050000000100", "no 13"),
+        ("record 060000000900", "no 13"),
+        ("record 072000000400", "no 13"),
+        ("record 072000000100", "no 14"),
+        ("record 062000000100", "no 1"),
+        ("record 060000000100", "no 1"),
+        ("record 060000000300", "ok 3 6 0 6"),
+        ("record 0c00000001000c0000000500", "no 4"),
+        ("record 1200000001000b0000000300012007000000", "no 5"),
+        ("record 1200000001000d0000000300012007000000", "no 6"),
+        (f"record 130000000100{OK_7}00", "no 3"),
+    ],
+    "a record is written: 13, 14, the container's, 6, 3, 9": [
+        (f"write-record 0 {'00' * 8193} 0", "no 13"),
+        (f"write-record 1 {'00' * 8193} 0", "no 14"),
+        ("write-record 1 - 0", "no 1"),
+        ("write-record 1 0d0000000300012007000000 0", "no 6"),
+        (f"write-record 1 {OK_7}00 0", "no 3"),
+        (f"write-record 1 {OK_7} 17", "no 9"),
+        (f"write-record 1 {OK_7} 18", "ok 18"),
+    ],
+    "8,192 and 8,193": [
+        (f"write-record 3 {'00' * 8192} 8198", "ok 8198"),
+        (f"write-record 3 {'00' * 8193} 0", "no 14"),
+        (f"record 062000000300{'00' * 8192}", "ok 3 6 8192 8198"),
+        (f"record 072000000300{'00' * 8193}", "no 14"),
+    ],
+}
+
+
+class Orders(unittest.TestCase):
+    def test_orders(self):
+        for title, cases in ORDERS.items():
+            for question, expected in cases:
+                with self.subTest(f"{title}: {question[:80]}"):
+                    words = expected.split(" ")
+                    self.assertEqual(answer(question).split(" ")[:len(words)], words)
+
+    def test_a_refused_output_is_untouched(self):
+        self.assertEqual(answer("write-string 65 4"), "no 9 a5a5a5a5")
+        self.assertEqual(answer("write-string 65 6"), "ok 5 0241000000a5")
+
+
+if __name__ == "__main__":
+    unittest.main()
