@@ -1,2 +1,4 @@
 pub mod Numerals
 pub mod Pieces
+pub mod Windows
+pub mod Fitting

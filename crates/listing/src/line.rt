@@ -133,8 +133,8 @@ pub(crate) fn put_record(place: u64, x: Record, names: &[u8], out: &mut [u8], at
 }
 
 pub(crate) fn put_ending(records: u64, count: u64, out: &mut [u8]) -> usize
-    requires { ⌜ length (ending records count) ≤ length (now out) ⌝ }
-    ensures { λ r. ⌜ Put (now (out .entry)) 0 (ending records count) (now (out .exit)) r ⌝ }
+    requires { ⌜ 64 ≤ length (now out) ⌝ }
+    ensures { λ r. ⌜ Put (now (out .entry)) 0 (ending records count) (now (out .exit)) r × (r ≤ 64) ⌝ }
 {
     let a = layout::copy(b"records ", 0, 8, out, 0);
     let b = put_decimal(records, out, a);
