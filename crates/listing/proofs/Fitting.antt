@@ -1,6 +1,5 @@
 -- Every line has room in 128 bytes: a 64-bit number has at most twenty digits, and a name at most 37 bytes.
 -- Assumes nothing.
-use mathlib.Core.Path.{_≡_, refl}
 use mathlib.Core.Bool.{Bool, true, false}
 use mathlib.Core.List.{List, _++_}
 use mathlib.Core.Option.{Option, some, none}

@@ -2,13 +2,13 @@
 -- Assumes nothing.
 use mathlib.Core.Path.{_≡_, refl, sym, ap, _∙_}
 use mathlib.Core.Bool.{Bool, true, false}
-use mathlib.Core.List.{List, [], _++_, append-nil}
+use mathlib.Core.List.{List, append-nil}
 use Prim.Native.Nat.{ℕ, zero, suc, _+_, _-_, _%_, _^_, _≤_, _<_}
-use native.Mathlib.Nat.{zero-add, add-zero}
+use native.Mathlib.Nat.{zero-add}
 use native.Mathlib.Omega.{arith}
 use borrow.Author.Tests.{le-leb, lt-leb, le-ltb, ltb-true}
 use lib.Dec.{leb, ltb}
-use lib.ListN.{length, take, drop, length-append, length-drop}
+use lib.ListN.{length, take, drop, length-drop}
 use lib.Seq.{drop-drop, take-length}
 use Rattle.layout.specs.Answer.{Answer, Told, got, refused, pick}
 use Rattle.layout.specs.Written.{Put}
@@ -20,7 +20,7 @@ use Rattle.recording.specs.Record.{recordOf}
 use Rattle.recording.specs.Row.{isCut}
 use Rattle.recording.proofs.Rowed.{Stands, record-stands}
 use Rattle.listing.specs.Lines.{recordLine, refusalLine}
-use Rattle.listing.specs.Window.{lineRoom, Windowed, rests, after-line, lined, waits, windowFrom, windowOf, listedOf, Lists}
+use Rattle.listing.specs.Window.{lineRoom, Windowed, rests, after-line, lined, waits, windowFrom, windowOf, Lists}
 
 -- ── a record at a time ──
 
@@ -162,7 +162,7 @@ module _ (last : Bool) (s : List ℕ) {w : Windowed} {out₀ out out′ : List �
       let r : length out - written - length line ≡ length out′ - written′ = omega (arith, p .place, long p) in
       let f : List ℕ → ℕ → Windowed = λ line n. windowOf last (length out - written - length line) (drop n (drop used s)) ((place + n) % 2 ^ 64) ((records + 1) % 2 ^ 64) in
       let step : windowOf last (length out - written) (drop used s) place records ≡ after-line line n (f line n)
-          = window-step last (length out - written) (drop used s) place records room ready ∙ ap (λ a. lined place records a f) (sym e) in
+      = window-step last (length out - written) (drop used s) place records room ready ∙ ap (λ a. lined place records a f) (sym e) in
       rw (r, drop-drop n used s) at (goes-on line n step g p (omega arith))
 
   pub wrong : {t : Told} → refused t ≡ recordOf (drop used s) → length (refusalLine place t) ≤ lineRoom → Put out written (refusalLine place t) out′ written′ →

@@ -88,7 +88,14 @@ fn put_counts(number: u64, count: u64, out: &mut [u8], at: usize) -> usize
     layout::copy(b"\n", 0, 1, out, d)
 }
 
-fn put_container(place: u64, kind: u16, x: Container, names: &[u8], out: &mut [u8], at: usize) -> usize
+fn put_container(
+    place: u64,
+    kind: u16,
+    x: Container,
+    names: &[u8],
+    out: &mut [u8],
+    at: usize,
+) -> usize
     requires { ⌜ (now names ≡ nameBytes) × (at + length (containerLine place kind x) ≤ length (now out)) ⌝ }
     ensures { λ r. ⌜ Put (now (out .entry)) at (containerLine place kind x) (now (out .exit)) r ⌝ }
 {

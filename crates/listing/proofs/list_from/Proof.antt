@@ -1,7 +1,7 @@
 -- `listing::list_from`: each turn lists one record, and what is still to be listed goes on from there. Assumes nothing.
 use mathlib.Core.Path.{_≡_, sym, _∙_}
 use mathlib.Core.Bool.{true, false}
-use Prim.Native.Nat.{_+_, _-_, _^_, _%_, _≤_, _<_}
+use Prim.Native.Nat.{_-_, _^_, _≤_, _<_}
 use native.Mathlib.Omega.{arith}
 use denote.Ref.{now}
 use lib.ListN.{length, drop, length-drop}
@@ -9,10 +9,9 @@ use Rattle.layout.specs.Answer.{got, refused}
 use Rattle.layout.proofs.Accepted.{accepted}
 use Rattle.layout.proofs.Numbers.{bytes-of, Bytes-drop}
 use Rattle.layout.proofs.Reading.{heard}
-use Rattle.layout.proofs.Writing.{long}
 use Rattle.recording.specs.Record.{recordOf, saysRecord}
 use Rattle.recording.proofs.Rowed.{record-stands, record-small}
-use Rattle.listing.specs.Lines.{recordLine, refusalLine}
+use Rattle.listing.specs.Lines.{recordLine}
 use Rattle.listing.specs.Window.{lineRoom, waits, windowOf}
 use Rattle.listing.proofs.Fitting.{record-short, refusal-short}
 use Rattle.listing.proofs.Windows.{Goes, begins, part-from, turn, wrong, goes-out, window-full, window-waits}

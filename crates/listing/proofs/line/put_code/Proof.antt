@@ -1,8 +1,7 @@
 -- `listing::line::put_code`: the name that stands at its place, or four digits. Assumes nothing.
-use mathlib.Core.Path.{_≡_, ap, sym, _∙_}
+use mathlib.Core.Path.{_≡_}
 use mathlib.Core.Option.{some, none}
-use denote.Ref.{now}
-use lib.ListN.{length, take, drop}
+use lib.ListN.{take, drop}
 use Rattle.layout.proofs.Reading.{heard}
 use Rattle.layout.proofs.Stored.{first}
 use Rattle.names.specs.Names.{nameBytes, given}

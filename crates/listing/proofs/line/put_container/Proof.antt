@@ -1,6 +1,5 @@
 -- `listing::line::put_container`: three pieces that have room, then the code and the counts. Assumes nothing.
 use native.Mathlib.Omega.{arith}
-use denote.Ref.{now}
 use lib.ListN.{length, length-append}
 use mathlib.Core.List.{_++_}
 use Rattle.layout.proofs.Stored.{room-left}
@@ -15,11 +14,12 @@ put-code-requires : tie.Need-put-code-requires
 put-code-requires c κs =
     let k = c .before .before .before .before .before .before .before .before .before .before .before .before .before .before .before .before in
     let a = k .args in
-    let h = container-parts (a .place) (a .kind) (a .x) in
-    (k .pre .0,
+    let h = container-parts (a .place) (a .kind) (a .x) in (
+      k .pre .0,
       room-left
-      (row3 (decimal (a .place)) (wayText (a .kind)) (kindText (a .x .kind)) (omega (arith, k .pre .1)) (c .before .before .before .before .before .before .before .before .before .before .before .put-decimal .ensures) (c .before .before .before .before .before .before .before .put-way .ensures) (c .before .before .before .put-kind .ensures))
-      (length (codeText (a .x .kind) (a .x .code))) (omega (arith, k .pre .1)))
+          (row3 (decimal (a .place)) (wayText (a .kind)) (kindText (a .x .kind)) (omega (arith, k .pre .1)) (c .before .before .before .before .before .before .before .before .before .before .before .put-decimal .ensures) (c .before .before .before .before .before .before .before .put-way .ensures) (c .before .before .before .put-kind .ensures))
+          (length (codeText (a .x .kind) (a .x .code))) (omega (arith, k .pre .1)),
+    )
 
 put-counts-requires : tie.Need-put-counts-requires
 put-counts-requires c κs =

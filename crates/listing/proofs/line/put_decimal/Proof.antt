@@ -1,5 +1,4 @@
 -- `listing::line::put_decimal` copies the digits that `io` made. Assumes nothing.
-use denote.Ref.{now}
 use Rattle.listing.proofs.Numerals.{decimal-is, shown}
 use borrow.Author.Needs.{needs}
 use Rattle.listing.proofs.line.put_decimal.Statement.{statement}

@@ -1,7 +1,5 @@
 -- `listing::line::put_hex`: the prefix, then four digits. Assumes nothing.
-use mathlib.Core.Path.{_≡_}
 use native.Mathlib.Omega.{arith}
-use denote.Ref.{now}
 use Rattle.io.specs.Digits.{digits}
 use Rattle.names.specs.Names.{spelled}
 use Rattle.listing.specs.Lines.{hexCode}
