@@ -1,6 +1,6 @@
 // Lists a recording that comes on standard input, of any size: two buffers are made once and lent, `listing` does the work, and this only
 // refills and writes.
-ghost use Prim.Native.Nat.{_≤_};
+ghost use Prim.Native.Nat.{_-_, _≤_};
 ghost use lib.ListN.{length};
 use layout::Written;
 use listing::Listed;
@@ -26,11 +26,21 @@ fn show(out: &[u8], n: usize) -> bool {
     io::write_all(1, &out[..n])
 }
 
-fn show_written(w: Written, out: &[u8]) -> bool {
+fn show_written(w: Written, out: &[u8; 65536]) -> bool {
     match w {
         Written::Done(n) => show(out, n),
         Written::Refused(_) => false,
     }
+}
+
+fn show_heading(out: &mut [u8; 65536]) -> bool {
+    let w = listing::write_heading(out);
+    show_written(w, out)
+}
+
+fn show_ending(tally: Tally, out: &mut [u8; 65536]) -> bool {
+    let w = listing::write_ending(tally, out);
+    show_written(w, out)
 }
 
 fn list_held(
@@ -42,12 +52,15 @@ fn list_held(
     out: &mut [u8],
 ) -> Listed
     requires { ⌜ (from ≤ held) × (held ≤ length (now window)) ⌝ }
+    ensures { λ r. ⌜ r .used ≤ held - from ⌝ }
 {
     listing::list_window(&window[from..held], last, tally, out)
 }
 
 // Moves the bytes from `from` up to `held` to the front: how many they are.
-fn shift(window: &mut [u8], from: usize, held: usize) -> usize {
+fn shift(window: &mut [u8], from: usize, held: usize) -> usize
+    ensures { λ r. ⌜ r ≤ length (now (window .entry)) ⌝ }
+{
     let mut i = 0;
     let mut j = from;
     while j < held {
@@ -62,20 +75,24 @@ fn shift(window: &mut [u8], from: usize, held: usize) -> usize {
 }
 
 // Reads what comes into the window after its first bytes: how many came.
-fn refill(window: &mut [u8], held: usize) -> usize {
+fn refill(window: &mut [u8], held: usize) -> usize
+    ensures { λ r. ⌜ r ≤ length (now (window .entry)) ⌝ }
+{
     if held > window.len() {
         return 0;
     }
     read_some(&mut window[held..])
 }
 
-fn read_some(room: &mut [u8]) -> usize {
+fn read_some(room: &mut [u8]) -> usize
+    ensures { λ r. ⌜ r ≤ length (now (room .entry)) ⌝ }
+{
     let got = libc::read(0, room);
     io::count(got, room)
 }
 
 // One turn: what can be listed is listed and shown; where nothing can, more is read.
-fn turn(s: State, window: &mut [u8], out: &mut [u8]) -> Turn {
+fn one_turn(s: State, window: &mut [u8; 65536], out: &mut [u8; 65536]) -> Turn {
     let from = s.from;
     let held = s.held;
     let last = s.last;
@@ -120,7 +137,7 @@ fn read_more(window: &mut [u8], from: usize, held: usize, tally: Tally) -> Turn 
 fn main() {
     let mut window = io::large_buffer();
     let mut out = io::large_buffer();
-    show_written(listing::write_heading(&mut out), &out);
+    show_heading(&mut out);
     let mut state = State {
         from: 0,
         held: 0,
@@ -132,12 +149,12 @@ fn main() {
     };
     let mut turns = u64::MAX;
     while turns > 0 {
-        match turn(state, &mut window, &mut out) {
+        match one_turn(state, &mut window, &mut out) {
             Turn::More(s) => {
                 state = s;
             }
             Turn::Stop(tally) => {
-                show_written(listing::write_ending(tally, &mut out), &out);
+                show_ending(tally, &mut out);
                 return;
             }
         }

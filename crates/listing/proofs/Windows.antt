@@ -75,6 +75,26 @@ module _ (last : Bool) where
       (accepts-all (Stands s) _ (recordOf s) (record-stands s) λ x n q.
       enough f g (room - length (recordLine p x)) (drop n s) ((p + n) % 2 ^ 64) ((c + 1) % 2 ^ 64) (less s n f (omega (arith, q .till)) h) (less s n g (omega (arith, q .till)) k))
 
+  used-from : (f room : ℕ) (s : List ℕ) (p c : ℕ) → windowFrom f last room s p c .used ≤ length s
+  unfolding windowFrom
+  used-from zero room s p c = omega arith
+  used-from (suc f) room s p c =
+      go (leb lineRoom room) (waits last s) (recordOf s) (record-stands s) (λ line n. used-from f (room - length line) (drop n s) ((p + n) % 2 ^ 64) ((c + 1) % 2 ^ 64))
+    where
+      go :
+          (a b : Bool) (x : Answer Record) → Accepts (Stands s) x →
+          ((line : List ℕ) (n : ℕ) → windowFrom f last (room - length line) (drop n s) ((p + n) % 2 ^ 64) ((c + 1) % 2 ^ 64) .used ≤ length (drop n s)) →
+          pick a (pick b (rests p c) (lined p c x λ line n. windowFrom f last (room - length line) (drop n s) ((p + n) % 2 ^ 64) ((c + 1) % 2 ^ 64))) (rests p c) .used ≤ length s
+      go true true x q r = omega arith
+      go true false (got x n) q r = omega (arith, q .within, r (recordLine p x) n, length-drop n s)
+      go true false (refused t) q r = omega arith
+      go false b x q r = omega arith
+
+  -- no more than the window is used
+  pub window-used : (room : ℕ) (s : List ℕ) (p c : ℕ) → windowOf last room s p c .used ≤ length s
+  unfolding windowOf
+  window-used room s p c = used-from (length s) room s p c
+
   pub window-full : (room : ℕ) (s : List ℕ) (p c : ℕ) → room < lineRoom → windowOf last room s p c ≡ rests p c
   unfolding windowOf windowFrom
   window-full room s p c h = enough (length s) (suc (length s)) room s p c (omega arith) (omega arith) ∙ rw (lt-leb lineRoom room h)
