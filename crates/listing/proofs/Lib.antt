@@ -4,3 +4,4 @@ pub mod Windows
 pub mod Fitting
 pub mod Whole
 pub mod Unique
+pub mod Example

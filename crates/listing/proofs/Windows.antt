@@ -20,7 +20,7 @@ use Rattle.recording.specs.Record.{recordOf}
 use Rattle.recording.specs.Row.{isCut}
 use Rattle.recording.proofs.Rowed.{Stands, record-stands}
 use Rattle.listing.specs.Lines.{recordLine, refusalLine}
-use Rattle.listing.specs.Window.{lineRoom, Windowed, rests, after-line, lined, waits, windowFrom, windowOf, Lists}
+use Rattle.listing.specs.Window.{answered, lineRoom, Windowed, rests, after-line, lined, waits, windowFrom, windowOf, Lists}
 
 -- ── a record at a time ──
 
@@ -151,14 +151,14 @@ goes-on {w} {rest} {next} {out₀} {out} {out′} {used} {written} {written′} 
 
 lists : {w : Windowed} {out₀ out : List ℕ} {used written place records : ℕ} {stopped : Bool} → Put out₀ 0 (w .text) out written → written ≤ length out →
     used ≡ w .used → place ≡ w .place → records ≡ w .records → stopped ≡ w .stopped →
-    Lists w out₀ (record { used = used; written = written; tally = record { place = place; records = records }; stopped = stopped }) out
+    Lists w out₀ (answered used written place records stopped) out
 lists {w} {out₀} {out} {used} {written} p h a b c d = record {
   answers = let e : written ≡ length (w .text) = p .place ∙ zero-add (length (w .text)) in rw (a, b, c, d, e);
   leaves = p .bytes ∙ put-front out₀ (w .text) (omega (arith, p .place, long p));
 }
 
 pub goes-out : {w rest : Windowed} {out₀ out : List ℕ} {used written : ℕ} (place records : ℕ) → rest ≡ rests place records → Goes w rest out₀ out used written →
-    Lists w out₀ (record { used = used; written = written; tally = record { place = place; records = records }; stopped = false }) out
+    Lists w out₀ (answered used written place records false) out
 goes-out {w} {rest} {out₀} {out} {used} {written} place records e g =
     let o : rest .used ≡ 0 = ap (λ (x : Windowed). x .used) e in
     lists (end (ap (λ (x : Windowed). x .text) e) (g .owes)) (g .fits) (omega (arith, g .uses)) (sym (ap (λ (x : Windowed). x .place) e) ∙ g .places)
@@ -166,7 +166,7 @@ goes-out {w} {rest} {out₀} {out} {used} {written} place records e g =
 
 goes-wrong : {w rest : Windowed} {out₀ out out′ : List ℕ} {used written written′ : ℕ} (place records : ℕ) (line : List ℕ) →
     rest ≡ record { text = line; used = 0; place = place; records = records; stopped = true } → Goes w rest out₀ out used written → Put out written line out′ written′ → written + length line ≤ length out →
-    Lists w out₀ (record { used = used; written = written′; tally = record { place = place; records = records }; stopped = true }) out′
+    Lists w out₀ (answered used written′ place records true) out′
 goes-wrong {w} {rest} {out₀} {out} {out′} {used} {written} {written′} place records line e g p h =
     let o : rest .used ≡ 0 = ap (λ (x : Windowed). x .used) e in
     lists (end refl (part (ap (λ (x : Windowed). x .text) e ∙ sym (append-nil line)) (g .owes) p)) (omega (arith, p .place, long p)) (omega (arith, g .uses))
@@ -186,7 +186,7 @@ module _ (last : Bool) (s : List ℕ) {w : Windowed} {out₀ out out′ : List �
       rw (r, drop-drop n used s) at (goes-on line n step g p (omega arith))
 
   pub wrong : {t : Told} → refused t ≡ recordOf (drop used s) → length (refusalLine place t) ≤ lineRoom → Put out written (refusalLine place t) out′ written′ →
-      Lists w out₀ (record { used = used; written = written′; tally = record { place = place; records = records }; stopped = true }) out′
+      Lists w out₀ (answered used written′ place records true) out′
   wrong {t} e h p =
       let f : List ℕ → ℕ → Windowed = λ line n. windowOf last (length out - written - length line) (drop n (drop used s)) ((place + n) % 2 ^ 64) ((records + 1) % 2 ^ 64) in
       goes-wrong place records (refusalLine place t) (window-step last (length out - written) (drop used s) place records room ready ∙ ap (λ a. lined place records a f) (sym e)) g p (omega arith)

@@ -55,9 +55,12 @@ windowFrom (suc fuel) last room s place records =
 unfoldable pub windowOf : Bool → ℕ → List ℕ → ℕ → ℕ → Windowed
 windowOf last room s place records = windowFrom (length s) last room s place records
 
+abbrev pub answered : ℕ → ℕ → ℕ → ℕ → Bool → Listed
+answered used written place records stopped = record { used = used; written = written; tally = record { place = place; records = records }; stopped = stopped }
+
 -- what the code answers, and what it leaves: the text at the front, and all past it as it was
 abbrev pub listedOf : Windowed → Listed
-listedOf w = record { used = w .used; written = length (w .text); tally = record { place = w .place; records = w .records }; stopped = w .stopped }
+listedOf w = answered (w .used) (length (w .text)) (w .place) (w .records) (w .stopped)
 
 pub record Lists (w : Windowed) (old : List ℕ) (r : Listed) (new : List ℕ) : Type 0 where
   pub answers : r ≡ listedOf w

@@ -4,7 +4,7 @@ ghost use lib.ListN.{length};
 ghost use Rattle.layout.specs.Written.{Wrote, says, saysWritten};
 ghost use Rattle.names.specs.Names.{nameBytes};
 ghost use Rattle.listing.specs.Lines.{heading, ending};
-ghost use Rattle.listing.specs.Window.{windowOf, Lists};
+ghost use Rattle.listing.specs.Window.{answered, windowOf, Lists};
 ghost use Rattle.listing.specs.Window.{waits as Window·waits};
 
 mod line;
@@ -52,6 +52,17 @@ fn waits(s: &[u8], last: bool) -> bool
     recording::is_cut(s)
 }
 
+fn answer(used: usize, written: usize, place: u64, records: u64, stopped: bool) -> Listed
+    ensures { λ r. ⌜ r ≡ answered used written place records stopped ⌝ }
+{
+    Listed {
+        used,
+        written,
+        tally: Tally { place, records },
+        stopped,
+    }
+}
+
 fn list_from(s: &[u8], last: bool, start: u64, count: u64, names: &[u8], out: &mut [u8]) -> Listed
     requires { ⌜ now names ≡ nameBytes ⌝ }
     ensures { λ r. ⌜ Lists (windowOf last (length (now (out .entry))) (now (s .entry)) start count) (now (out .entry)) r (now (out .exit)) ⌝ }
@@ -63,37 +74,23 @@ fn list_from(s: &[u8], last: bool, start: u64, count: u64, names: &[u8], out: &m
     while out.len() - written >= LINE_ROOM {
         let part = &s[used..];
         if waits(part, last) {
-            return Listed {
-                used,
-                written,
-                tally: Tally { place, records },
-                stopped: false,
-            };
+            return answer(used, written, place, records, false);
         }
         match recording::read_record(part) {
             ReadRecord::Got(x, next) => {
+                let taken = next.at;
                 written = line::put_record(place, x, names, out, written);
-                used += next.at;
-                place = std::num::wrapping_add_u64(place, next.at as u64);
+                used += taken;
+                place = std::num::wrapping_add_u64(place, taken as u64);
                 records = std::num::wrapping_add_u64(records, 1);
             }
             ReadRecord::Refused(f) => {
                 written = line::put_refusal(place, f, out, written);
-                return Listed {
-                    used,
-                    written,
-                    tally: Tally { place, records },
-                    stopped: true,
-                };
+                return answer(used, written, place, records, true);
             }
         }
     }
-    Listed {
-        used,
-        written,
-        tally: Tally { place, records },
-        stopped: false,
-    }
+    answer(used, written, place, records, false)
 }
 
 // Lists the whole records of a window of the recording, while there is room for a line. `last` says that the input ends with the window.

@@ -46,10 +46,11 @@ loop-holds c =
 
 returns : tie.Need-returns Inv-loop μ-loop
 returns c =
-    let l = c .before .before .before .before in
+    let l = c .before .before .before .before .before in
     let a = l .before .before .before .before .args in
-    let w : waits (a .last) (drop (l .loop .used) (now (a .s))) ≡ true = rw (part-from (now (a .s)) (l .loop .used)) at (sym (c .before .waits .ensures) ∙ c .if1 .taken) in
-    goes-out (l .loop .place) (l .loop .records) (window-waits (a .last) (length (l .loop .out) - l .loop .written) (drop (l .loop .used) (now (a .s))) (l .loop .place) (l .loop .records) w) (l .loop .inv .0)
+    let w : waits (a .last) (drop (l .loop .used) (now (a .s))) ≡ true = rw (part-from (now (a .s)) (l .loop .used)) at (sym (c .before .before .waits .ensures) ∙ c .before .if1 .taken) in
+    rw (c .answer .ensures)
+    (goes-out (l .loop .place) (l .loop .records) (window-waits (a .last) (length (l .loop .out) - l .loop .written) (drop (l .loop .used) (now (a .s))) (l .loop .place) (l .loop .records) w) (l .loop .inv .0))
 
 put-record-requires : tie.Need-put-record-requires Inv-loop μ-loop
 put-record-requires c κs =
@@ -58,28 +59,28 @@ put-record-requires c κs =
 
 add-used : tie.Need-add-used Inv-loop μ-loop
 add-used c =
-    let k = c .before .before .before .before .before .before in
+    let k = c .before .before .before .before .before in
     let l = k .before .before .before .before .before .before .before in
     let r = accepted _ (record-stands (drop (l .loop .used) (now (l .before .before .before .before .args .s)))) (read k) in
     record { fits = omega (arith, r .within, length-drop (l .loop .used) (now (l .before .before .before .before .args .s))) }
 
 loop-less : tie.Need-loop-less Inv-loop μ-loop
 loop-less c =
-    let k = c .before .before .before .before .before .before .before .before in
+    let k = c .before .before .before .before .before .before .before in
     let l = k .before .before .before .before .before .before .before in
     let r = accepted _ (record-stands (drop (l .loop .used) (now (l .before .before .before .before .args .s)))) (read k) in
     omega (arith, r .till, r .within, length-drop (l .loop .used) (now (l .before .before .before .before .args .s)))
 
 loop-again : tie.Need-loop-again Inv-loop μ-loop
 loop-again c =
-    let k = c .before .before .before .before .before .before .before .before in
+    let k = c .before .before .before .before .before .before .before in
     let l = k .before .before .before .before .before .before .before in
     let a = l .before .before .before .before .args in
     let s = now (a .s) in
     let rest = drop (l .loop .used) s in
     let r = accepted _ (record-stands rest) (read k) in
     let ready : waits (a .last) rest ≡ false = rw (part-from s (l .loop .used)) at (sym (k .before .before .before .before .waits .ensures) ∙ k .before .before .before .if1 .left) in
-    let g = turn (a .last) s (l .loop .place) (l .loop .records) (l .loop .inv .0) (k .before .before .before .before .before .before .loop-test .taken) ready (read k) (short-line k) (c .before .before .before .before .before .put-record .ensures) in
+    let g = turn (a .last) s (l .loop .place) (l .loop .records) (l .loop .inv .0) (k .before .before .before .before .before .before .loop-test .taken) ready (read k) (short-line k) (c .before .before .before .before .put-record .ensures) in
     (rw (c .before .wrapping-add-u64 .ensures, c .wrapping-add-u642 .ensures) g, omega (arith, r .within, length-drop (l .loop .used) s), c .before .wrapping-add-u64 .ok)
 
 put-refusal-requires : tie.Need-put-refusal-requires Inv-loop μ-loop
@@ -90,21 +91,22 @@ put-refusal-requires c κs =
 
 returns-2 : tie.Need-returns-2 Inv-loop μ-loop
 returns-2 c =
-    let k = c .before .before .before .before .before in
+    let k = c .before .before .before .before .before .before in
     let l = k .before .before .before .before .before .before .before in
     let a = l .before .before .before .before .args in
     let s = now (a .s) in
     let rest = drop (l .loop .used) s in
     let ready : waits (a .last) rest ≡ false = rw (part-from s (l .loop .used)) at (sym (k .before .before .before .before .waits .ensures) ∙ k .before .before .before .if1 .left) in
     let e : refused (k .f .given .0 .0) ≡ recordOf rest = rw (part-from s (l .loop .used)) at (heard saysRecord (k .f .given .1) (k .before .before .read-record .ensures)) in
-    let h = refusal-short (l .loop .place) (k .f .given .0 .0) (l .loop .inv .2) (c .before .before .before .before .known-told2 .given .0 .1 .1 .0 .1) in
-    wrong (a .last) s (l .loop .place) (l .loop .records) (l .loop .inv .0) (k .before .before .before .before .before .before .loop-test .taken) ready e h (c .before .before .put-refusal .ensures)
+    let h = refusal-short (l .loop .place) (k .f .given .0 .0) (l .loop .inv .2) (c .before .before .before .before .before .known-told2 .given .0 .1 .1 .0 .1) in
+    rw (c .answer2 .ensures) (wrong (a .last) s (l .loop .place) (l .loop .records) (l .loop .inv .0) (k .before .before .before .before .before .before .loop-test .taken) ready e h (c .before .before .before .put-refusal .ensures))
 
 returns-3 : tie.Need-returns-3 Inv-loop μ-loop
 returns-3 c =
-    let l = c .before in
+    let l = c .before .before in
     let a = l .before .before .before .before .args in
-    goes-out (l .loop .place) (l .loop .records) (window-full (a .last) (length (l .loop .out) - l .loop .written) (drop (l .loop .used) (now (a .s))) (l .loop .place) (l .loop .records) (c .loop-test .left)) (l .loop .inv .0)
+    rw (c .answer3 .ensures)
+    (goes-out (l .loop .place) (l .loop .records) (window-full (a .last) (length (l .loop .out) - l .loop .written) (drop (l .loop .used) (now (a .s))) (l .loop .place) (l .loop .records) (c .before .loop-test .left)) (l .loop .inv .0))
 
 pub list-from-spec : {M : Type 1} → statement M
 list-from-spec =
@@ -118,6 +120,7 @@ list-from-spec =
     (λ c. search needs)
     (λ c. search needs)
     (λ c κs. search needs)
+    (λ c κs. search needs)
     (λ c. search needs)
     returns
     (λ c κs. search needs)
@@ -130,7 +133,9 @@ list-from-spec =
     loop-again
     (λ c. search needs)
     put-refusal-requires
+    (λ c κs. search needs)
     (λ c. search needs)
     returns-2
+    (λ c κs. search needs)
     (λ c. search needs)
     returns-3)
