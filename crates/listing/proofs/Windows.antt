@@ -12,7 +12,7 @@ use lib.ListN.{length, take, drop, length-drop}
 use lib.Seq.{drop-drop, take-length}
 use Rattle.layout.specs.Answer.{Answer, Told, got, refused, pick}
 use Rattle.layout.specs.Written.{Put}
-use Rattle.layout.proofs.Accepted.{Accepts}
+use Rattle.layout.proofs.Accepted.{Accepts, accepts-all}
 use Rattle.layout.proofs.Tidied.{zero-one}
 use Rattle.layout.proofs.Writing.{Owes, start, part, end, long, put-front}
 use Rattle.recording.specs.declared.Record.{Record}
@@ -27,10 +27,6 @@ use Rattle.listing.specs.Window.{answered, lineRoom, Windowed, rests, af
 lined-same : (place records : ℕ) (x : Answer Record) (f g : List ℕ → ℕ → Windowed) → Accepts (λ r n. f (recordLine place r) n ≡ g (recordLine place r) n) x → lined place records x f ≡ lined place records x g
 lined-same place records (got x n) f g e = ap (after-line (recordLine place x) n) e
 lined-same place records (refused t) f g e = refl
-
-accepts-all : {A : Type 0} (P Q : A → ℕ → Type 0) (x : Answer A) → Accepts P x → ((a : A) (n : ℕ) → P a n → Q a n) → Accepts Q x
-accepts-all P Q (got a n) h f = f a n h
-accepts-all P Q (refused t) h f = tt
 
 waits-empty : (last : Bool) (s : List ℕ) → length s ≤ 0 → waits last s ≡ true
 unfolding waits

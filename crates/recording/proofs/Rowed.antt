@@ -9,9 +9,9 @@ use borrow.Author.Tests.{leb-true, leb-false, eqb-true, lt-ltb, le-ltb, ltb-fals
 use lib.Dec.{leb, ltb, eqb}
 use lib.ListN.{length, take, drop, length-append, length-drop, take-append-drop}
 use lib.Seq.{length-take-le, take-append-le, drop-append-le}
-use Rattle.layout.specs.Answer.{Answer, got, refused, pick, after, means, spanAt, fieldAt}
+use Rattle.layout.specs.Answer.{Answer, got, refused, pick, after, spanAt, fieldAt}
 use Rattle.layout.specs.Bytes.{Bytes, number}
-use Rattle.layout.proofs.Accepted.{Accepts, accepts-after, accepts-pick, accepts-field}
+use Rattle.layout.proofs.Accepted.{Accepts, accepts-any, accepts-all, accepts-both, accepts-means, accepts-after, accepts-pick, accepts-field}
 use Rattle.layout.proofs.Make.{Spanned, there, short, spanned, span-there}
 use Rattle.layout.proofs.Numbers.{Bytes-take}
 use Rattle.layout.proofs.Tidied.{zero-one}
@@ -33,20 +33,6 @@ pub record Stands (s : List ℕ) (x : Record) (n : ℕ) : Type 0 where
   pub till : n ≡ 6 + x .body .count
   pub within : n ≤ length s
 
-accepts-means : {A B : Type 0} (P : A → ℕ → Type 0) (Q : B → ℕ → Type 0) (f : A → B) (x : Answer A) → Accepts P x → ((a : A) (n : ℕ) → P a n → Q (f a) n) → Accepts Q (means f x)
-unfolding means
-accepts-means P Q f (got a n) h k = k a n h
-accepts-means P Q f (refused t) h k = tt
-
--- nothing is asked
-any : {A : Type 0} (x : Answer A) → Accepts (λ _ _. Unit {0}) x
-any (got a n) = tt
-any (refused t) = tt
-
-accepts-both : {A : Type 0} (P Q : A → ℕ → Type 0) (x : Answer A) → Accepts P x → Accepts Q x → Accepts (λ a n. P a n × Q a n) x
-accepts-both P Q (got a n) h k = (h, k)
-accepts-both P Q (refused t) h k = tt
-
 length-take-most : (n : ℕ) (s : List ℕ) → length (take n s) ≤ length s
 length-take-most n s = let e = ap length (take-append-drop n s) in omega (arith, length-append (take n s) (drop n s))
 
@@ -54,7 +40,7 @@ content-ends : (kind : ℕ) (s : List ℕ) (at : ℕ) → Accepts (λ c n. n ≡
 unfolding contentAt
 content-ends kind s at =
     accepts-pick _ (eqb kind 3) _ _ (λ _. refl)
-    (λ _. accepts-after (λ _ _. Unit {0}) _ (containerAt s at) _ (any (containerAt s at)) λ x n _. accepts-pick _ (eqb n (length s)) _ _ (λ e. eqb-true n (length s) e) (λ _. tt))
+    (λ _. accepts-after (λ _ _. Unit {0}) _ (containerAt s at) _ (accepts-any (containerAt s at)) λ x n _. accepts-pick _ (eqb n (length s)) _ _ (λ e. eqb-true n (length s) e) (λ _. tt))
 
 pub record-stands : (s : List ℕ) → Accepts (Stands s) (recordOf s)
 unfolding recordOf bodyAt
@@ -93,13 +79,13 @@ content-small kind s h at =
 pub record-small : (s : List ℕ) → Bytes s → Accepts (λ x n. Small s (x .content)) (recordOf s)
 unfolding recordOf bodyAt
 record-small s h =
-    accepts-after _ _ (numAt 4 s 0) _ (any (numAt 4 s 0)) λ len a p.
-    accepts-after _ _ (numAt 2 s a) _ (any (numAt 2 s a)) λ kind b q.
+    accepts-after _ _ (numAt 4 s 0) _ (accepts-any (numAt 4 s 0)) λ len a p.
+    accepts-after _ _ (numAt 2 s a) _ (accepts-any (numAt 2 s a)) λ kind b q.
     accepts-pick _ (begins len kind) _ _
     (λ _.
     accepts-pick _ (leb (len - 6) limit) _ _
     (λ _.
-    accepts-after _ _ (spanAt b (len - 6) s b) _ (any (spanAt b (len - 6) s b)) λ _ next r.
+    accepts-after _ _ (spanAt b (len - 6) s b) _ (accepts-any (spanAt b (len - 6) s b)) λ _ next r.
     accepts-means _ _ _ (contentAt kind (take next s) b) (content-small kind (take next s) (Bytes-take next s h) b) λ c n e. wider next c e)
     (λ _. tt))
     (λ _. tt)
@@ -113,10 +99,6 @@ record-small s h =
 followed-same : (x : Answer Record) (f g : ℕ → List (Answer Record)) → Accepts (λ _ n. f n ≡ g n) x → followed x f ≡ followed x g
 followed-same (got x n) f g e = ap (λ l. got x n ∷ l) e
 followed-same (refused t) f g e = refl
-
-accepts-all : {A : Type 0} (P Q : A → ℕ → Type 0) (x : Answer A) → Accepts P x → ((a : A) (n : ℕ) → P a n → Q a n) → Accepts Q x
-accepts-all P Q (got a n) h f = f a n h
-accepts-all P Q (refused t) h f = tt
 
 found-none : (f : ℕ) (s : List ℕ) → length s ≤ 0 → found f s ≡ []
 unfolding found

@@ -1,16 +1,15 @@
 -- Laws of containers: what each of their tests answers, and the bytes of parameters one by one.
 -- Assumes nothing.
-use mathlib.Core.Path.{_≡_, refl, _∙_}
+use mathlib.Core.Path.{_≡_, refl}
 use mathlib.Core.Bool.{true, false}
 use mathlib.Core.List.{List, _++_}
 use Prim.Native.Nat.{ℕ, zero, suc, _+_, _-_, _*_, _^_, _≤_, _<_}
 use native.Mathlib.Omega.{arith}
-use native.Mathlib.Nat.{zero-add}
 use native.Mathlib.Numerals.{add-one}
 use borrow.Author.Tests.{le-leb, lt-leb, leb-true}
 use lib.Dec.{leb}
 use lib.ListN.{length, take, drop, getD, length-append, length-drop}
-use lib.Seq.{length-take-le, take-length, take-append-seam}
+use lib.Seq.{length-take-le, take-length}
 use Rattle.layout.specs.Answer.{Answer, Told, got, refused, bare, after, spanAt, fieldAt}
 use Rattle.layout.specs.Bytes.{Bytes, bytes, number}
 use Rattle.layout.specs.Written.{says, no, Put, roomed}
@@ -18,7 +17,6 @@ use Rattle.layout.proofs.Accepted.{Accepts, accepts-after, accepts-pick, accept
 use Rattle.layout.proofs.Make.{Spanned, there, short, spanned}
 use Rattle.layout.proofs.Numbers.{length-bytes, number-lt, Bytes-take, Bytes-drop}
 use Rattle.layout.proofs.Tidied.{zero-one}
-use Rattle.layout.proofs.Writing.{put-front}
 use Rattle.layout.proofs.Stored.{first, more}
 use Rattle.wire.specs.Container.{isKind, headerRest, headerAt, containerAt, containerWord, containerSaid, paramBytes, commandSaid}
 use Rattle.wire.specs.Places.{numAt}
@@ -88,12 +86,6 @@ said-count c number h = rw (lt-leb (c .count) 5 h)
 pub said-command : (c : Command) (number : ℕ) → c .count ≤ 5 → commandSaid c number ≡ containerSaid 1 (c .code) number (paramBytes (c .count) (c .params))
 unfolding commandSaid
 said-command c number h = rw (le-leb (c .count) 5 h)
-
--- what was put at the front stands there
-pub put-whole : {old bs new : List ℕ} {n : ℕ} → Put old 0 bs new n → length bs ≤ length old → take n new ≡ bs
-put-whole {old} {bs} {new} {n} p h =
-    let e : n ≡ length bs = p .place ∙ zero-add (length bs) in
-    rw (e, p .bytes, put-front old bs h) (take-append-seam bs (drop (length bs) old))
 
 -- ── where an accepted container stands ──
 
