@@ -1,1 +1,3 @@
 pub mod Sending
+pub mod Filled
+pub mod Searched

@@ -14,7 +14,7 @@ use lib.Seq.{take-all, length-take-le, take-append-seam, drop-at, drop-drop}
 use Rattle.layout.specs.Answer.{Told, Answer, got, refused, bare, pick}
 use Rattle.layout.specs.Written.{Said, says, no, Wrote, answerOf, leftOf, Put, roomed}
 use Rattle.layout.proofs.Tidied.{zero-one}
-use Rattle.layout.proofs.Writing.{refusal, no-room, put-front, in-room}
+use Rattle.layout.proofs.Writing.{refusal, no-room, done, put-front, roomy}
 use Rattle.session.specs.Transaction.{together}
 
 -- ── what a writer did, by its answer ──
@@ -35,7 +35,7 @@ whole {s} {old} {new} {n} w = of s refl (w .answers) (w .leaves)
     of (no t) d e f = zero-one (cc)
     of (says bs) d e f = go (leb (length bs) (length old)) refl e f
       where
-        go : (b : Bool) → leb (length bs) (length old) ≡ b → got tt n ≡ pick b (got tt (length bs)) (refused (bare 9)) → new ≡ pick b (bs ++ drop (length bs) old) old → Whole s old n new
+        go : (b : Bool) → leb (length bs) (length old) ≡ b → _≡_ {A = Answer (Unit {0})} (got tt n) (pick b (got tt (length bs)) (refused (bare 9))) → new ≡ pick b (bs ++ drop (length bs) old) old → Whole s old n new
         go true h e f = record { bs = bs; due = d; fits = leb-true (length bs) (length old) h; count = cc; left = f }
         go false h e f = zero-one (cc)
 
@@ -52,7 +52,7 @@ kept {s} {old} {new} {t} w = of s refl (w .answers) (w .leaves)
     of (no u) d e f = (f, not-due (cc))
     of (says bs) d e f = go (leb (length bs) (length old)) refl e f
       where
-        go : (b : Bool) → leb (length bs) (length old) ≡ b → refused t ≡ pick b (got tt (length bs)) (refused (bare 9)) → new ≡ pick b (bs ++ drop (length bs) old) old → (new ≡ old) × Kept s old t
+        go : (b : Bool) → leb (length bs) (length old) ≡ b → _≡_ {A = Answer (Unit {0})} (refused t) (pick b (got tt (length bs)) (refused (bare 9))) → new ≡ pick b (bs ++ drop (length bs) old) old → (new ≡ old) × Kept s old t
         go true h e f = zero-one (cc)
         go false h e f = (f, too-short bs d (leb-false (length bs) (length old) h) (cc))
 
@@ -70,7 +70,7 @@ module _ (out : List ℕ) (at : ℕ) where
   tail-is = take-all (length out - at) (drop at out) (omega (arith, length-drop at out))
 
   pub back-is : (new : List ℕ) → back new ≡ take at out ++ new
-  back-is new = rw (drop-of-length-le (drop at out) {length out - at} (omega (arith, length-drop at out)), append-nil new)
+  back-is new = rw (drop-of-length-le (drop at out) {i = length out - at} (omega (arith, length-drop at out)), append-nil new)
 
 -- as far as there is room
 pub start-of : (n start size : ℕ) → start ≡ pick (leb n size) n size → (start ≤ size) × (start ≤ n) × (start < size → start ≡ n)
@@ -80,7 +80,40 @@ start-of n start size e = go (leb n size) refl e
     go true h e = (omega (arith, leb-true n size h), omega arith, λ _. e)
     go false h e = (omega arith, omega (arith, leb-false n size h), λ l. absurd (omega arith))
 
+-- what is put before bytes that stand behind its place
+pub put-before :
+    (out a b base : List ℕ) {new : List ℕ} {k : ℕ} → length a + length b ≤ length out → base ≡ take (length a) out ++ (b ++ drop (length a + length b) out) →
+    Put base 0 (roomed base 0 a) new k → Put out 0 (a ++ b) new (k + length b)
+put-before out a b base {new} {k} fit e p =
+    let front : length (take (length a) out) ≡ length a = length-take-le (length a) out (omega arith) in
+    let size : length a ≤ length base = omega (arith, ap length e, length-append (take (length a) out) (b ++ drop (length a + length b) out)) in
+    let q = roomy a p (omega arith) in
+    let behind : drop (length a) base ≡ b ++ drop (length a + length b) out = rw e (drop-at (take (length a) out) (b ++ drop (length a + length b) out) (length a) front) in
+    let both : length (a ++ b) ≤ length out = omega (arith, length-append a b) in
+    record {
+      bytes = q .bytes ∙ put-front base a size ∙ rw behind (rw (← append-assoc, ← length-append) (sym (put-front out (a ++ b) both)));
+      place = omega (arith, q .place, length-append a b);
+    }
+
+-- the front of what was made apart, put before what was written into the part from there on
+pub joined :
+    (out a b front room part : List ℕ) {n start : ℕ} {new : List ℕ} {k : ℕ} → n ≡ length a → front ≡ a ++ room → part ≡ b ++ drop (length b) (tail out start) → start ≡ n →
+    length a + length b ≤ length out → Put (back out start part) 0 (roomed (back out start part) 0 (take n (drop 0 front))) new k → Put out 0 (a ++ b) new (k + length b)
+joined out a b front room part {n} {start} count made written here fit p =
+    let cut : take n (drop 0 front) ≡ a = rw (count, made) (take-append-seam a room) in
+    let base : back out start part ≡ take (length a) out ++ (b ++ drop (length a + length b) out) =
+    back-is out start part ∙ rw (written, tail-is out start, drop-drop, here, count) in
+    put-before out a b (back out start part) fit base (rw cut at p)
+
 -- ── both ──
+
+both-due : {s t : Said} {a b : List ℕ} → s ≡ says a → t ≡ says b → together s t ≡ says (a ++ b)
+unfolding together
+both-due e f = rw (e, f)
+
+second-not-due : {s t : Said} {a : List ℕ} {f : Told} → s ≡ says a → t ≡ no f → together s t ≡ no f
+unfolding together
+second-not-due e f = rw (e, f)
 
 module _ (s t : Said) (out : List ℕ) where
   pub first-refused : (room front : List ℕ) (f : Told) → ((w : List ℕ) → s ≡ says w → length w ≤ length room) → Wrote s room (refused f) front → Wrote (together s t) out (refused f) out
@@ -93,7 +126,6 @@ module _ (s t : Said) (out : List ℕ) where
 
   module _ {room front part : List ℕ} {n start : ℕ} (first : Wrote s room (got tt n) front) (from : start ≡ pick (leb n (length out)) n (length out)) where
     pub second-refused : {f : Told} → Wrote t (tail out start) (refused f) part → Wrote (together s t) out (refused f) (back out start part)
-    unfolding together
     second-refused {f} w =
         let a = whole first in
         let p = start-of n start (length out) from in
@@ -101,10 +133,22 @@ module _ (s t : Said) (out : List ℕ) where
         rw same (of a p (kept w .1))
       where
         of : Whole s room n front → (start ≤ length out) × (start ≤ n) × (start < length out → start ≡ n) → Kept t (tail out start) f → Wrote (together s t) out (refused f) out
-        of a p (not-due e) = refusal (rw (a .due, e))
+        of a p (not-due e) = refusal (second-not-due (a .due) e)
         of a p (too-short bs e h g) =
             let size : length (tail out start) ≡ length out - start = ap length (tail-is out start) ∙ length-drop start out in
-            no-room (rw (a .due, e)) (omega (arith, length-append (a .bs) bs, a .count)) g
+            no-room (both-due (a .due) e) (omega (arith, length-append (a .bs) bs, a .count)) g
 
-    pub both-written : {new : List ℕ} {m k : ℕ} → ((w : List ℕ) → t ≡ says w → 0 < length w) → Wrote t (tail out start) (got tt m) part → Put (back out start part) 0 (roomed (back out start part) 0 (take n (drop 0 front))) new k → Wrote (together s t) out (got tt (k + m)) new
-    both-written some w p = ?
+    pub both-written :
+        {new : List ℕ} {m k : ℕ} → ((w : List ℕ) → t ≡ says w → 0 < length w) → Wrote t (tail out start) (got tt m) part →
+        Put (back out start part) 0 (roomed (back out start part) 0 (take n (drop 0 front))) new k → Wrote (together s t) out (got tt (k + m)) new
+    both-written {new} {m} {k} some w p =
+        let a = whole first in
+        let b = whole w in
+        let size : length (tail out start) ≡ length out - start = ap length (tail-is out start) ∙ length-drop start out in
+        let st = start-of n start (length out) from in
+        let here : start ≡ n = st .2 (omega (arith, some (b .bs) (b .due))) in
+        rw (b .count)
+        (done
+        (both-due (a .due) (b .due))
+        (omega (arith, length-append (a .bs) (b .bs)))
+        (joined out (a .bs) (b .bs) front (drop (length (a .bs)) room) part (a .count) (a .left) (b .left) here (omega arith) p))

@@ -39,7 +39,7 @@ fn following(session: Session) -> Session
 }
 
 // What was written, as a command made.
-fn made(session: Session, w: Written) -> Made
+fn with_turn(session: Session, w: Written) -> Made
     ensures { λ r. ⌜ saysMade r ≡ means (λ _. turn session) (saysWritten w) ⌝ }
 {
     match w {
@@ -56,7 +56,7 @@ pub fn command(session: Session, c: Command, out: &mut [u8]) -> Made
     ensures { λ r. ⌜ Makes session (commandSaid c) (now (out .entry)) (saysMade r) (now (out .exit)) ⌝ }
 {
     let number = session.number;
-    made(session, wire::write_command(c, number, out))
+    with_turn(session, wire::write_command(c, number, out))
 }
 
 fn least(x: usize, y: usize) -> usize
@@ -67,15 +67,15 @@ fn least(x: usize, y: usize) -> usize
 
 // The command's bytes are made apart, and its data are written first where they are to stand:
 // so each refusal comes in its order, before a byte of the output is changed.
-fn write_both(c: Command, number: u32, data: &[u8], out: &mut [u8]) -> Written
-    ensures { λ r. ⌜ Wrote (withData c (now (data .entry)) number) (now (out .entry)) (saysWritten r) (now (out .exit)) ⌝ }
+fn write_both(c: Command, number: u32, payload: &[u8], out: &mut [u8]) -> Written
+    ensures { λ r. ⌜ Wrote (withData c (now (payload .entry)) number) (now (out .entry)) (saysWritten r) (now (out .exit)) ⌝ }
 {
     let code = c.code;
     let mut front = [0u8; 32];
     match wire::write_command(c, number, &mut front) {
         Written::Done(n) => {
             let start = least(n, out.len());
-            match wire::write_container(2, code, number, data, &mut out[start..]) {
+            match wire::write_container(2, code, number, payload, &mut out[start..]) {
                 Written::Done(m) => Written::Done(layout::copy(&front, 0, n, out, 0) + m),
                 Written::Refused(f) => Written::Refused(f),
             }
@@ -85,9 +85,9 @@ fn write_both(c: Command, number: u32, data: &[u8], out: &mut [u8]) -> Written
 }
 
 // The command, and its data behind it.
-pub fn command_with_data(session: Session, c: Command, data: &[u8], out: &mut [u8]) -> Made
-    ensures { λ r. ⌜ Makes session (withData c (now (data .entry))) (now (out .entry)) (saysMade r) (now (out .exit)) ⌝ }
+pub fn command_with_data(session: Session, c: Command, payload: &[u8], out: &mut [u8]) -> Made
+    ensures { λ r. ⌜ Makes session (withData c (now (payload .entry))) (now (out .entry)) (saysMade r) (now (out .exit)) ⌝ }
 {
     let number = session.number;
-    made(session, write_both(c, number, data, out))
+    with_turn(session, write_both(c, number, payload, out))
 }
