@@ -14,3 +14,7 @@ first {out} {bs} {new} {at} h p = rw (in-room out at bs (omega arith)) at p
 -- one more
 pub more : {out mid new done : List ℕ} {at k m : ℕ} → Put out at done mid k → (next : List ℕ) → at + length done + length next ≤ length out → Put mid k (roomed mid k next) new m → Put out at (done ++ next) new m
 more p next h q = then p (first (omega (arith, p .place, long p)) q)
+
+-- the room that is left for the next
+pub room-left : {out mid done : List ℕ} {at k : ℕ} → Put out at done mid k → (n : ℕ) → at + length done + n ≤ length out → k + n ≤ length mid
+room-left p n h = omega (arith, p .place, long p)

@@ -13,7 +13,6 @@ use lib.Seq.{drop-drop}
 use Rattle.layout.specs.Answer.{Told, Answer, got, refused, pick, after, means, badText, spanAt, fieldAt}
 use Rattle.layout.specs.Bytes.{Bytes, bytes, number, cells}
 use Rattle.layout.specs.Written.{spelling}
-use Rattle.layout.proofs.Make.{Spanned, short, spanned, there}
 use Rattle.layout.proofs.Numbers.{Bytes-drop, bytes-number}
 use Rattle.layout.proofs.Tidied.{zero-one}
 use Rattle.wire.specs.declared.Part.{Part}
@@ -130,13 +129,6 @@ module _ (s : List ℕ) (at : ℕ) where
   unfolding utf8At means
   utf8-refused t e = rw (← e)
 
-pub span-over : (field n : ℕ) (s : List ℕ) (at : ℕ) (t : Told) → refused t ≡ spanAt field n s at → length s - at < n
-span-over field n s at t e = go (spanAt field n s at) (spanned field n s at) e
-  where
-    go : (x : Answer (Unit {0})) → Spanned field n s at x → refused t ≡ x → length s - at < n
-    go (got u q) (there h) e = zero-one (cc)
-    go (refused u) (short h) e = h
-
 -- ── how long it can be ──
 
 points-few : (us : List ℕ) → length (points us) ≤ length us
@@ -155,7 +147,7 @@ unfolding encodedAll
 all-few [] = omega arith
 all-few (c ∷ cs) = omega (arith, length-append (encoded c) (encodedAll cs), encoded-few c, all-few cs)
 
-utf8-few : (us : List ℕ) → length (utf8 us) ≤ 4 * length us
+pub utf8-few : (us : List ℕ) → length (utf8 us) ≤ 4 * length us
 unfolding utf8
 utf8-few us = omega (arith, all-few (points us), points-few us)
 

@@ -49,7 +49,7 @@ fn form_len(f: Form, code: u16, src: &[u8]) -> usize
             let step = values_len(code, 1, src, c.start);
             1 + low + high + step
         }
-        Form::List(p, n) => 3 + values_len(code, n, src, p.start),
+        Form::List(p, n) => 3 + values_len(code, n as usize, src, p.start),
     }
 }
 
@@ -82,7 +82,7 @@ fn put_form(f: Form, code: u16, src: &[u8], out: &mut [u8], o: usize) -> usize
     match f {
         Form::Absent => layout::store(out, o, 1, 0),
         Form::Range(a, b, c) => put_range(a.start, b.start, c.start, code, src, out, o),
-        Form::List(p, n) => put_list(n, p.start, code, src, out, o),
+        Form::List(p, n) => put_list(n as usize, p.start, code, src, out, o),
     }
 }
 

@@ -64,6 +64,7 @@ form-len-spec =
     add-result-2
     add-result-3
     (λ c. search needs)
+    (λ c. search needs)
     (λ c κs. search needs)
     (λ c. search needs)
     returns

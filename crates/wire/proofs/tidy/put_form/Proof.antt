@@ -46,6 +46,7 @@ put-form-spec =
     (λ c. search needs)
     put-range-requires
     (λ c. search needs)
+    (λ c. search needs)
     put-list-requires
     (λ c. search needs)
     returns
