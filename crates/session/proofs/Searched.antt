@@ -1,10 +1,10 @@
 -- The search a container at a time: what is still to be found at a place is refused with its refusals, is the Response's answer, or is what is still
 -- to be found behind it.
 -- Assumes nothing.
-use mathlib.Core.Path.{_≡_, refl, sym, _∙_}
+use mathlib.Core.Path.{_≡_, refl}
 use mathlib.Core.Bool.{Bool, true, false}
 use mathlib.Core.List.{List, []}
-use Prim.Native.Nat.{ℕ, zero, suc, _+_, _-_, _≤_, _<_}
+use Prim.Native.Nat.{ℕ, zero, suc, _-_, _≤_, _<_}
 use native.Mathlib.Numerals.{sub-one}
 use native.Mathlib.Omega.{arith}
 use borrow.Author.Tests.{le-leb, lt-leb, eq-eqb, ne-eqb}
@@ -12,7 +12,7 @@ use lib.Dec.{eqb}
 use lib.ListN.{length}
 use Rattle.layout.specs.Answer.{Told, Answer, got, refused, pick, after, means, bare}
 use Rattle.layout.proofs.Accepted.{accepted}
-use Rattle.layout.proofs.Reading.{follow, stop, meant, not-meant, means-means}
+use Rattle.layout.proofs.Reading.{follow, stop, means-means}
 use Rattle.wire.specs.Container.{containerAt}
 use Rattle.wire.specs.declared.Part.{Part}
 use Rattle.wire.specs.declared.container.Container.{Container}

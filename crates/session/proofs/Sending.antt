@@ -3,11 +3,10 @@
 -- Assumes nothing.
 use mathlib.Core.Path.{_≡_, refl, sym, _∙_, ap}
 use mathlib.Core.Bool.{Bool, true, false}
-use mathlib.Core.List.{List, [], _++_, append-assoc, append-nil}
+use mathlib.Core.List.{List, _++_, append-assoc, append-nil}
 use Prim.Native.Nat.{ℕ, _+_, _-_, _≤_, _<_}
-use native.Mathlib.Nat.{zero-add}
 use native.Mathlib.Omega.{arith}
-use borrow.Author.Tests.{le-leb, leb-true, leb-false}
+use borrow.Author.Tests.{leb-true, leb-false}
 use lib.Dec.{leb}
 use lib.ListN.{length, take, drop, length-append, length-drop, take-append-drop, drop-of-length-le}
 use lib.Seq.{take-all, length-take-le, take-append-seam, drop-at, drop-drop}
@@ -66,10 +65,10 @@ module _ (out : List ℕ) (at : ℕ) where
   abbrev pub back : List ℕ → List ℕ
   back new = take at out ++ (new ++ drop (length out - at) (drop at out))
 
-  pub tail-is : tail ≡ drop at out
+  tail-is : tail ≡ drop at out
   tail-is = take-all (length out - at) (drop at out) (omega (arith, length-drop at out))
 
-  pub back-is : (new : List ℕ) → back new ≡ take at out ++ new
+  back-is : (new : List ℕ) → back new ≡ take at out ++ new
   back-is new = rw (drop-of-length-le (drop at out) {i = length out - at} (omega (arith, length-drop at out)), append-nil new)
 
 -- as far as there is room
@@ -81,7 +80,7 @@ start-of n start size e = go (leb n size) refl e
     go false h e = (omega arith, omega (arith, leb-false n size h), λ l. absurd (omega arith))
 
 -- what is put before bytes that stand behind its place
-pub put-before :
+put-before :
     (out a b base : List ℕ) {new : List ℕ} {k : ℕ} → length a + length b ≤ length out → base ≡ take (length a) out ++ (b ++ drop (length a + length b) out) →
     Put base 0 (roomed base 0 a) new k → Put out 0 (a ++ b) new (k + length b)
 put-before out a b base {new} {k} fit e p =
@@ -96,7 +95,7 @@ put-before out a b base {new} {k} fit e p =
     }
 
 -- the front of what was made apart, put before what was written into the part from there on
-pub joined :
+joined :
     (out a b front room part : List ℕ) {n start : ℕ} {new : List ℕ} {k : ℕ} → n ≡ length a → front ≡ a ++ room → part ≡ b ++ drop (length b) (tail out start) → start ≡ n →
     length a + length b ≤ length out → Put (back out start part) 0 (roomed (back out start part) 0 (take n (drop 0 front))) new k → Put out 0 (a ++ b) new (k + length b)
 joined out a b front room part {n} {start} count made written here fit p =

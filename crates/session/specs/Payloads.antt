@@ -13,12 +13,12 @@ unfoldable pub filling : {A : Type 0} → Reader A → List ℕ → Answer A
 filling read s = after (read s 0) λ x next. after (filledAt s next) λ _ end. got x end
 
 -- handle arrays and storage IDs: arrays of numbers of four bytes
-abbrev pub handlesIn : List ℕ → Answer Part
-handlesIn = filling (arrayAt 4)
+abbrev pub handlesPayload : List ℕ → Answer Part
+handlesPayload = filling (arrayAt 4)
 
-abbrev pub storageIn : List ℕ → Answer StorageInfo
-storageIn = filling storageAt
+abbrev pub storagePayload : List ℕ → Answer StorageInfo
+storagePayload = filling storageAt
 
 -- object counts
-abbrev pub countIn : List ℕ → Answer ℕ
-countIn = filling (numAt 4)
+abbrev pub countPayload : List ℕ → Answer ℕ
+countPayload = filling (numAt 4)

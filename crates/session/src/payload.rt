@@ -4,7 +4,7 @@ ghost use Rattle.wire.specs.Device.{deviceAt, saysDevice};
 ghost use Rattle.wire.specs.Object.{objectAt, saysObject};
 ghost use Rattle.wire.specs.Says.{saysPart, saysU32};
 ghost use Rattle.wire.specs.Storage.{saysStorage};
-ghost use Rattle.session.specs.Payloads.{handlesIn, countIn, storageIn};
+ghost use Rattle.session.specs.Payloads.{handlesPayload, countPayload, storagePayload};
 use wire::Cursor;
 use wire::ReadDevice;
 use wire::ReadObject;
@@ -15,7 +15,7 @@ use wire::Span;
 use wire::Width;
 
 pub fn object_handles(s: &[u8]) -> ReadPart
-    ensures { λ r. ⌜ saysPart r ≡ handlesIn (now (s .entry)) ⌝ }
+    ensures { λ r. ⌜ saysPart r ≡ handlesPayload (now (s .entry)) ⌝ }
 {
     match (Cursor { at: 0 }).array(s, Width::Four) {
         ReadPart::Got(p, next) => match next.end(s) {
@@ -28,13 +28,13 @@ pub fn object_handles(s: &[u8]) -> ReadPart
 
 // They are laid out as handles are.
 pub fn storage_ids(s: &[u8]) -> ReadPart
-    ensures { λ r. ⌜ saysPart r ≡ handlesIn (now (s .entry)) ⌝ }
+    ensures { λ r. ⌜ saysPart r ≡ handlesPayload (now (s .entry)) ⌝ }
 {
     object_handles(s)
 }
 
 pub fn object_count(s: &[u8]) -> ReadU32
-    ensures { λ r. ⌜ saysU32 r ≡ countIn (now (s .entry)) ⌝ }
+    ensures { λ r. ⌜ saysU32 r ≡ countPayload (now (s .entry)) ⌝ }
 {
     match (Cursor { at: 0 }).u32(s) {
         ReadU32::Got(n, next) => match next.end(s) {
@@ -46,7 +46,7 @@ pub fn object_count(s: &[u8]) -> ReadU32
 }
 
 pub fn storage_info(s: &[u8]) -> ReadStorage
-    ensures { λ r. ⌜ saysStorage r ≡ storageIn (now (s .entry)) ⌝ }
+    ensures { λ r. ⌜ saysStorage r ≡ storagePayload (now (s .entry)) ⌝ }
 {
     match wire::storage_info(s, Cursor { at: 0 }) {
         ReadStorage::Got(x, next) => match next.end(s) {

@@ -1,15 +1,15 @@
 -- How long what is sent is: a container has twelve bytes before its payload, and a command has five parameters at most.
 -- Assumes nothing.
-use mathlib.Core.Path.{_≡_, refl, sym, _∙_, ap}
+use mathlib.Core.Path.{_≡_, refl, _∙_, ap}
 use mathlib.Core.Bool.{Bool, true, false}
 use mathlib.Core.List.{List}
-use Prim.Native.Nat.{ℕ, _+_, _*_, _≤_}
+use Prim.Native.Nat.{ℕ, _+_, _≤_}
 use native.Mathlib.Omega.{arith}
 use borrow.Author.Tests.{leb-true}
 use lib.Dec.{leb}
 use lib.ListN.{length}
 use Rattle.layout.specs.Answer.{pick, bare}
-use Rattle.layout.specs.Written.{Said, says, no}
+use Rattle.layout.specs.Written.{says, no}
 use Rattle.layout.proofs.Tidied.{zero-one}
 use Rattle.wire.specs.Container.{isKind, containerWord, containerSaid, paramBytes, commandSaid}
 use Rattle.wire.specs.declared.container.Command.{Command}

@@ -1,5 +1,4 @@
 -- `session::transaction::following`: the wrapping sum is the rule's. Assumes nothing.
-use mathlib.Core.Path.{ap}
 use borrow.Author.Needs.{needs}
 use Rattle.session.specs.Transaction.{nextNumber}
 use Rattle.session.proofs.transaction.following.Statement.{statement}

@@ -1,5 +1,4 @@
 -- `session::transaction::with_turn`: each case by the case that it is given. Assumes nothing.
-use mathlib.Core.Path.{ap, sym}
 use borrow.Author.Needs.{needs}
 use Rattle.layout.specs.Answer.{means}
 use Rattle.session.proofs.transaction.with_turn.Statement.{statement}

@@ -1,21 +1,12 @@
 -- `session::transaction::write_both`: the command into room that is enough for any, the data behind its place, then the command before them.
 -- Assumes nothing.
-use mathlib.Core.Path.{sym, _∙_}
 use native.Mathlib.Omega.{arith}
 use borrow.Author.Needs.{needs}
-use lib.ListN.{length}
-use Rattle.layout.specs.Written.{saysWritten}
 use Rattle.wire.specs.Container.{commandSaid, containerSaid}
 use Rattle.wire.proofs.Sent.{command-size, container-size}
 use Rattle.session.proofs.Sending.{whole, start-of, first-refused, second-refused, both-written}
 use Rattle.session.proofs.transaction.write_both.Statement.{statement}
 use Rattle.session.proofs.transaction.write_both.Tie as tie
-use Rattle.session.proofs.transaction.write_both.Reads as reads
-use Rattle.session.proofs.transaction.write_both.Lts as lts
-use Rattle.layout.proofs.copy.Reads as copy-reads
-use Rattle.session.proofs.transaction.least.Reads as least-reads
-use Rattle.wire.proofs.write_command.Reads as write-command-reads
-use Rattle.wire.proofs.write_container.Reads as write-container-reads
 
 returns : tie.Need-returns
 returns c =
