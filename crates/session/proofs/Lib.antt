@@ -1,0 +1,5 @@
+pub mod Sending
+pub mod Searched
+pub mod Filled
+pub mod Unique
+pub mod Examples
