@@ -29,6 +29,7 @@ pub struct Listed {
 // Room that any line has.
 const LINE_ROOM: usize = 128;
 
+// The first line.
 pub fn write_heading(out: &mut [u8]) -> Written
     ensures { λ r. ⌜ Wrote (says heading) (now (out .entry)) (saysWritten r) (now (out .exit)) ⌝ }
 {
@@ -93,7 +94,8 @@ fn list_from(s: &[u8], last: bool, start: u64, count: u64, names: &[u8], out: &m
     answer(used, written, place, records, false)
 }
 
-// Lists the whole records of a window of the recording, while there is room for a line. `last` says that the input ends with the window.
+// Lists the whole records of a window of the recording, as long as 128 bytes of room are left. `last` says that the input ends with the
+// window: then a record that is cut is refused, and else it waits for more bytes.
 pub fn list_window(s: &[u8], last: bool, from: Tally, out: &mut [u8]) -> Listed
     ensures { λ r. ⌜ Lists (windowOf last (length (now (out .entry))) (now (s .entry)) (from .place) (from .records)) (now (out .entry)) r (now (out .exit)) ⌝ }
 {
