@@ -15,6 +15,8 @@ use Rattle.wire.specs.Container.{headerAt, commandSaid}
 use Rattle.wire.specs.Utf8.{utf8At}
 use Rattle.wire.specs.declared.container.Header.{Header}
 use Rattle.wire.specs.declared.container.Command.{Command}
+use Rattle.session.specs.Calls.{openSession}
+use Rattle.session.specs.Transaction.{freshSession}
 use Rattle.tree.specs.Table.{Table, table}
 use Rattle.tree.specs.Path.{pathSaid}
 use Rattle.tree.proofs.Tested.{walkTest}
@@ -106,9 +108,6 @@ n13 = 1 ∷ 0x50 ∷ 0 ∷ 0 ∷ 0 ∷ 0 ∷ 2 ∷ 0xFF ∷ 0xFF ∷ []
 abbrev pub n13-reading : Reading
 n13-reading = record { code = 0x5001; type = 0; getset = 0; enable = 0; default = nil; current = nil; form = list (replicate 65535 nil) }
 
-abbrev pub open-session : Command
-open-session = record { code = 0x1002; params = 3 ∷ 0 ∷ 0 ∷ 0 ∷ 0 ∷ []; count = 3 }
-
 -- four objects: names empty, A, B, C
 abbrev pub objects : Table
 objects =
@@ -137,9 +136,9 @@ examples =
     ∷ example (a-property n11) (describes (got n11-reading 12))
     ∷ example (a-property n12) (describes (got n12-reading 17))
     ∷ example (a-property n13) (describes (got n13-reading 9))
-    -- N14 Response Ok numbered 7, N15 OpenSession numbered 0
+    -- N14 Response Ok numbered 7, N15 OpenSession from a fresh session, numbered 0
     ∷ example (a-header (0x0C ∷ 0 ∷ 0 ∷ 0 ∷ 3 ∷ 0 ∷ 1 ∷ 0x20 ∷ 7 ∷ 0 ∷ 0 ∷ 0 ∷ [])) (heads (got (record { kind = 3; code = 0x2001; number = 7; «payload_len» = 0 }) 12))
-    ∷ example (a-command open-session 0) (spells (says (0x18 ∷ 0 ∷ 0 ∷ 0 ∷ 1 ∷ 0 ∷ 2 ∷ 0x10 ∷ 0 ∷ 0 ∷ 0 ∷ 0 ∷ 3 ∷ zeros 11)))
+    ∷ example (a-command openSession (freshSession .number)) (spells (says (0x18 ∷ 0 ∷ 0 ∷ 0 ∷ 1 ∷ 0 ∷ 2 ∷ 0x10 ∷ 0 ∷ 0 ∷ 0 ∷ 0 ∷ 3 ∷ zeros 11)))
     -- N16 the tree: order 0, 1, 3, 2; the path of 2 is A/B
     ∷ example (a-tree objects (0 ∷ 1 ∷ 3 ∷ 2 ∷ []) 2) (walks true (says (0x41 ∷ 0x2F ∷ 0x42 ∷ [])))
     ∷ []

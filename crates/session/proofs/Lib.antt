@@ -2,4 +2,3 @@ pub mod Sending
 pub mod Searched
 pub mod Filled
 pub mod Unique
-pub mod Examples
