@@ -1,7 +1,6 @@
 // Transactions: a command that is made uses the session's number, and hands on the session after it.
 ghost use mathlib.Core.Path.{_≡_};
-ghost use lib.Dec.{leb};
-ghost use Rattle.layout.specs.Answer.{means, pick};
+ghost use Rattle.layout.specs.Answer.{means};
 ghost use Rattle.layout.specs.Written.{Wrote, saysWritten};
 ghost use Rattle.wire.specs.Container.{commandSaid};
 ghost use Rattle.session.specs.Transaction.{freshSession, turn, withData, Makes, saysMade};
@@ -59,12 +58,6 @@ pub fn command(session: Session, c: Command, out: &mut [u8]) -> Made
     with_turn(session, wire::write_command(c, number, out))
 }
 
-fn least(x: usize, y: usize) -> usize
-    ensures { λ r. ⌜ r ≡ pick (leb x y) x y ⌝ }
-{
-    if x <= y { x } else { y }
-}
-
 // The command's bytes are made apart, and its data are written first where they are to stand:
 // so each refusal comes in its order, before a byte of the output is changed.
 fn write_both(c: Command, number: u32, payload: &[u8], out: &mut [u8]) -> Written
@@ -74,7 +67,7 @@ fn write_both(c: Command, number: u32, payload: &[u8], out: &mut [u8]) -> Writte
     let mut front = [0u8; 32];
     match wire::write_command(c, number, &mut front) {
         Written::Done(n) => {
-            let start = least(n, out.len());
+            let start = layout::least(n, out.len());
             match wire::write_container(2, code, number, payload, &mut out[start..]) {
                 Written::Done(m) => Written::Done(layout::copy(&front, 0, n, out, 0) + m),
                 Written::Refused(f) => Written::Refused(f),
