@@ -11,7 +11,7 @@ use borrow.Author.Tests.{le-leb, lt-leb, leb-true, leb-false}
 use native.Mathlib.Nat.{one-le-pow}
 use lib.ListN.{length, take, drop, length-append, length-drop, take-append-drop}
 use lib.Seq.{take-at, drop-at, length-take-le}
-use Rattle.layout.specs.Answer.{Told, Answer, got, refused, Reader, pick, after, means, located, endAt, spanAt, fieldAt}
+use Rattle.layout.specs.Answer.{Told, Answer, got, refused, pick, after, means, located, endAt, spanAt, fieldAt}
 use Rattle.layout.specs.Bytes.{Bytes, bytes, number, cells}
 use Rattle.layout.specs.Grammar.{Spelling, loose, tidy, Grammar, Empty, empty, Number, num, _then_, both, Lead, lead, Such, such, As, as′, Repeat, Spare, Counted}
 use Rattle.layout.specs.Codec.{Codec, nothing, numbered, _and_, leading, only, through, field, repeated, spared, celled, counted}

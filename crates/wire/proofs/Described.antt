@@ -1,13 +1,13 @@
 -- A property's description: the code's reader of places answers, by its meaning, as the layout's own, and every part lies within.
 -- Assumes nothing.
-use mathlib.Core.Path.{_≡_, refl, ap, sym, _∙_, subst}
+use mathlib.Core.Path.{_≡_, refl, ap, sym, _∙_}
 use mathlib.Core.List.{List, [], _∷_}
-use Prim.Native.Nat.{ℕ, zero, suc, _+_, _-_, _≤_}
+use Prim.Native.Nat.{ℕ, zero, suc, _+_, _≤_}
 use native.Mathlib.Omega.{arith}
 use borrow.Author.Tests.{ne-eqb}
 use lib.Dec.{eqb}
 use lib.ListN.{length, replicate}
-use Rattle.layout.specs.Answer.{Told, Answer, got, refused, after, means, pick, fieldAt}
+use Rattle.layout.specs.Answer.{Told, Answer, got, refused, after, means, pick}
 use Rattle.layout.specs.Codec.{Codec, numbered, _and_, cons-write, repeated, through}
 use Rattle.layout.specs.Placed.{Inside, Placed, Lies, lies, nowhere}
 use Rattle.layout.proofs.Meets.{lies-after}
@@ -17,11 +17,11 @@ use Rattle.wire.specs.declared.property.PropInfo.{PropInfo}
 use Rattle.wire.specs.declared.property.Slot.{Slot}
 use Rattle.wire.specs.declared.property.Form as F
 use Rattle.wire.specs.declared.property.Form.the-variants as code
-use Rattle.wire.specs.Layout.{Val, shape, Form, range, list, no-form, Reading, Parts, reading}
+use Rattle.wire.specs.Layout.{Val, shape, Form, range, list, reading}
 use Rattle.wire.specs.Codecs.{value, row, three, listed, formed, form, fields, property}
 use Rattle.wire.specs.Places.{numAt, Located, valueAt, shapeIn}
-use Rattle.wire.specs.Property.{between, slotAt, valuesAt, rangeAt, listAt, formAt, propertyAt, read-or, slotIn, valuesIn, formIn, propertyIn}
-use Rattle.wire.specs.Tidy.{shapeWord, valueWord, rowWord, types}
+use Rattle.wire.specs.Property.{between, slotAt, valuesAt, rangeAt, listAt, formAt, propertyAt, slotIn, formIn, propertyIn}
+use Rattle.wire.specs.Tidy.{rowWord, types}
 use Rattle.wire.proofs.Located.{values, num-lies, shape-parts}
 use Rattle.wire.proofs.RowWords.{types-one}
 

@@ -14,7 +14,7 @@ use Rattle.layout.proofs.Tidied.{zero-one}
 use Rattle.layout.proofs.Words.{fits}
 use Rattle.wire.specs.declared.later.Chosen.{Chosen}
 use Rattle.wire.specs.declared.property.PropInfo.{PropInfo}
-use Rattle.wire.specs.Layout.{Property, Reading}
+use Rattle.wire.specs.Layout.{Property}
 use Rattle.wire.specs.Newer.{fills, fresh, present, newerFrom, newerOf}
 use Rattle.wire.specs.Property.{propertyAt, propertyIn}
 use Rattle.wire.proofs.Described.{properties, property-parts}

@@ -1,23 +1,23 @@
 -- The words of what a writer is given: an integer's low bytes, a string's units, an array's items.
 -- Assumes nothing.
 use mathlib.Core.Path.{_≡_, refl, ap, sym, _∙_, subst}
-use mathlib.Core.Bool.{Bool, true, false}
+use mathlib.Core.Bool.{true, false}
 use mathlib.Core.List.{List, [], _∷_, _++_, append-nil}
 use Prim.Native.Nat.{ℕ, zero, suc, _+_, _-_, _*_, _/_, _%_, _^_, _≤_, _<_}
 use native.Mathlib.Nat.{one-le-pow, pow-succ', mul-comm, mul-assoc, div-add-mod', suc-mul, not-suc-le-zero}
-use native.Mathlib.Numerals.{add-one, sub-one}
+use native.Mathlib.Numerals.{add-one}
 use native.Mathlib.Omega.{arith}
 use borrow.Author.Tests.{eq-eqb, ne-eqb, le-leb, lt-leb, le-ltb}
 use lib.Dec.{lit≤, ltb}
 use lib.IntN.{ℤ, pos, negsuc, _-ℤ_}
-use lib.ListN.{length, take, drop, getD, length-append, drop-of-length-le}
+use lib.ListN.{length, drop, getD, length-append, drop-of-length-le}
 use lib.Seq.{drop-cons}
 use lib.Pow.{pow-add}
 use lib.Signed.{mag, ltZ}
 use mir.Syntax.{w64}
 use mir.Val.{SFits, toZ, ofZ}
 use mir.ValLaws.{toZ-ofZ}
-use Rattle.layout.specs.Answer.{pick, bare, badText}
+use Rattle.layout.specs.Answer.{bare, badText}
 use Rattle.layout.specs.Bytes.{Bytes, bytes, cells}
 use Rattle.layout.specs.Codec.{celled}
 use Rattle.layout.specs.Grammar.{Number}
@@ -28,7 +28,7 @@ use Rattle.layout.proofs.Single.{single-number, single-repeat}
 use Rattle.layout.proofs.Tidied.{zero-one}
 use Rattle.wire.specs.declared.given.Bits.{Bits}
 use Rattle.wire.specs.Layout.{paired}
-use Rattle.wire.specs.Codecs.{unsigned, text, array}
+use Rattle.wire.specs.Codecs.{unsigned, array}
 use Rattle.wire.specs.Given.{integerBits, textSaid, unitsWord, itemsSaid}
 use Rattle.wire.specs.Tidy.{spelled}
 use Rattle.wire.proofs.Spelled.{length-cells, spelled-none, spelled-some}

@@ -10,7 +10,7 @@ use native.Mathlib.Omega.{arith}
 use borrow.Author.Tests.{ltb-true, ltb-false}
 use lib.Dec.{ltb}
 use lib.ListN.{length, take, drop, getD, replicate, length-append, length-replicate, getD-replicate, drop-of-length-le, List·getD-append}
-use lib.Seq.{drop-cons, getD-take, getD-append-add, length-take-le, take-append-seam, take-length}
+use lib.Seq.{drop-cons, getD-take, getD-append-add, length-take-le, take-append-seam}
 use Rattle.layout.specs.Answer.{Told, Answer, got, refused, pick, after, means}
 use Rattle.layout.specs.Written.{says, saidOf, tidied, took, spelling}
 use Rattle.layout.proofs.Tidied.{measured, unmeasured, zero-one}

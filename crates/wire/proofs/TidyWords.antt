@@ -23,7 +23,7 @@ use Rattle.wire.specs.declared.property.Form.the-variants as code
 use Rattle.wire.specs.Layout.{Val, nil, Shape, one, many, string, undef, shape, Row, Form, Formed, form-byte, FormOf, reading, Fields, Property, Value}
 use Rattle.wire.specs.Codecs.{value, shaped, row, three, listed, formed, form, fields, property}
 use Rattle.wire.specs.Places.{numAt}
-use Rattle.wire.specs.Property.{between, slotAt, valuesAt, rangeAt, listAt, formAt, propertyAt, read-or, slotIn, valuesIn, formIn, propertyIn}
+use Rattle.wire.specs.Property.{between, valuesAt, rangeAt, listAt, formAt, propertyAt, read-or, slotIn, valuesIn, formIn}
 use Rattle.wire.specs.Tidy.{rowWord, types}
 use Rattle.wire.specs.TidyProperty.{valuesWord, headerWord, rangeWord, listWord, formWord, propertyWord, Taken, WellForm, Well}
 use Rattle.wire.proofs.Described.{row-values, properties}

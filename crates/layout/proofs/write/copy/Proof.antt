@@ -1,12 +1,9 @@
 -- `layout::write::copy` takes no more than there is, tests the room, then copies. Assumes nothing.
-use mathlib.Core.Path.{_≡_, _∙_, sym, ap}
+use mathlib.Core.Path.{_≡_, _∙_, sym}
 use native.Mathlib.Omega.{arith}
-use Prim.Native.Nat.{_-_}
 use denote.Ref.{now}
-use lib.Dec.{leb}
 use lib.ListN.{length, take, drop, length-drop}
 use borrow.Author.Needs.{needs}
-use Rattle.layout.specs.Answer.{pick}
 use Rattle.layout.proofs.Writing.{in-room, out-of-room, nothing, take-least}
 use Rattle.layout.proofs.write.copy.Statement.{statement}
 use Rattle.layout.proofs.write.copy.Tie as tie

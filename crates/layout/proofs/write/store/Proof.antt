@@ -1,5 +1,4 @@
 -- `layout::write::store` tests the room, then stores. Assumes nothing.
-use mathlib.Core.Path.{sym}
 use native.Mathlib.Omega.{arith}
 use denote.Ref.{now}
 use borrow.Author.Needs.{needs}

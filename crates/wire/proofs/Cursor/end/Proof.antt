@@ -1,5 +1,5 @@
 -- `wire::Cursor::end` tests whether a byte is left. Assumes nothing.
-use mathlib.Core.Path.{ap, _∙_, sym}
+use mathlib.Core.Path.{ap}
 use borrow.Author.Tests.{lt-ltb, le-ltb}
 use Rattle.layout.specs.Answer.{refused}
 use Rattle.wire.specs.Places.{filledAt}

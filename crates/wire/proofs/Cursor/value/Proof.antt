@@ -1,5 +1,5 @@
 -- `wire::Cursor::value`: by the shape of its code, each arm as its own reader says. Assumes nothing.
-use mathlib.Core.Path.{refl, ap, _∙_}
+use mathlib.Core.Path.{ap, _∙_}
 use denote.Ref.{now}
 use Rattle.layout.proofs.Reading.{heard, meant, not-meant}
 use Rattle.wire.specs.Places.{items, units, shapeAt}

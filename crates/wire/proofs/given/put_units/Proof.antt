@@ -1,9 +1,9 @@
 -- `wire::given::put_units`: the loop owes the units that are left. Assumes nothing.
-use mathlib.Core.Path.{_≡_, ap}
+use mathlib.Core.Path.{_≡_}
 use Prim.Native.Nat.{_≤_, _+_, _-_, _*_}
 use native.Mathlib.Omega.{arith}
 use denote.Ref.{now}
-use lib.ListN.{length, drop, getD, length-drop}
+use lib.ListN.{length, drop}
 use Rattle.layout.specs.Bytes.{bytes}
 use Rattle.layout.proofs.Numbers.{length-bytes}
 use Rattle.layout.proofs.Writing.{Owes, start, part, end, roomy}

@@ -1,9 +1,9 @@
 -- `wire::given::write_items`: not whole, too many, too long for the room, or the count and the bytes. Assumes nothing.
-use mathlib.Core.Path.{_≡_, sym, ap, _∙_}
+use mathlib.Core.Path.{sym, ap, _∙_}
 use Prim.Native.Nat.{_/_}
 use native.Mathlib.Omega.{arith}
 use denote.Ref.{now}
-use lib.ListN.{length, length-append, drop}
+use lib.ListN.{length, length-append}
 use lib.Seq.{take-length}
 use Rattle.layout.specs.Bytes.{bytes}
 use Rattle.layout.specs.Written.{no}

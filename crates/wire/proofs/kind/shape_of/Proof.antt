@@ -1,5 +1,5 @@
 -- `wire::kind::shape_of`: a kind by the code, else by the code of the items, else the one code of strings. Assumes nothing.
-use mathlib.Core.Path.{sym, ap, _∙_}
+use mathlib.Core.Path.{ap, _∙_}
 use mathlib.Core.Option.{none}
 use lib.ListN.{getD}
 use borrow.Author.Tests.{eq-eqb, ne-eqb}

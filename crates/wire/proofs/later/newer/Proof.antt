@@ -1,10 +1,8 @@
 -- `wire::later::newer`: the part that `newer_place` names lies within its bytes. Assumes nothing.
-use mathlib.Core.Path.{_≡_, ap, sym, _∙_}
+use mathlib.Core.Path.{_≡_}
 use Prim.Native.Nat.{_+_, _-_}
 use native.Mathlib.Omega.{arith}
 use denote.Ref.{now}
-use lib.ListN.{length, take, drop}
-use Rattle.layout.specs.Answer.{pick}
 use Rattle.layout.proofs.Numbers.{bytes-of}
 use Rattle.wire.proofs.Newest.{chosen-within}
 use borrow.Author.Needs.{needs}

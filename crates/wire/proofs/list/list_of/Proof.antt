@@ -40,7 +40,6 @@ use denote.Triple.Walked.{says, Stays, stay-none-slice, walkOf, goes-none-slice,
 use denote.Exit.{yes}
 use denote.Triple.Clauses.{ensured, lasts}
 use Rattle.wire.specs.List.{placeOf, listAt}
-use Rattle.wire.specs.declared.list.Values.{Values}
 use Rattle.wire.specs.declared.list.Place.{Place}
 use Rattle.wire.proofs.list.Values as T
 use Rattle.wire.proofs.list.Values.Laws as T′

@@ -2,7 +2,6 @@
 -- The struct is Copy: what it owns is had twice, one copy is kept whole for the exit, and of the other what src owns goes to the callee, beside the lifetime's token, which comes back.
 -- Assumes nothing.
 use mathlib.Core.Path.{_≡_, refl}
-use Prim.Native.Nat.{_<_, _^_}
 use mathlib.Core.List.{[], _∷_}
 use lib.Dec.{T as Holds}
 use lib.ListN.{length}
@@ -24,16 +23,15 @@ use types.Run.{look, init, forget, stop, fld, from, load, of-opd, and-then, no-m
 use sound.WpLaws.{FmC, fmOf, WpFn-mono}
 use denote.RattleType.{RattleType, owns}
 use denote.Laws.{Is, shows}
-use denote.Plain.{uint-makes}
 use denote.Builtin.{u8, u16, usize}
 use denote.Ref.{now}
 use denote.Signature.{namedLft}
 use denote.Slice.{sliceVal, ShrSlice}
-use denote.Steps.{owned, peeks, heard, nothing}
+use denote.Steps.{peeks, heard, nothing}
 use denote.Enum.Laws as EL
 use denote.Struct.Declared.{Declared}
 use denote.Struct.Laws as LL
-use denote.Struct.Rest.{all-own, ownAt, rest, own-open, own-out}
+use denote.Struct.Rest.{all-own, own-open}
 use denote.Struct.Values.{Values as FieldValues}
 use denote.Triple.Statement.{Contract, Triple}
 use denote.Triple.Call.{calls-at}

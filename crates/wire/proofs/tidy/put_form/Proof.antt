@@ -1,12 +1,8 @@
 -- `wire::tidy::put_form`: by the form. Assumes nothing.
-use mathlib.Core.Path.{sym, ap}
 use native.Mathlib.Omega.{arith}
-use denote.Ref.{now}
-use lib.ListN.{length}
 use Rattle.layout.specs.Bytes.{bytes}
-use Rattle.layout.proofs.Numbers.{length-bytes}
 use Rattle.layout.proofs.Writing.{roomy}
-use Rattle.wire.specs.TidyProperty.{formWord, WellForm}
+use Rattle.wire.specs.TidyProperty.{formWord}
 use borrow.Author.Needs.{needs}
 use Rattle.wire.proofs.tidy.put_form.Statement.{statement}
 use Rattle.wire.proofs.tidy.put_form.Tie as tie

@@ -1,8 +1,5 @@
 -- `wire::tidy::put_header`: four writes in a row, six bytes in all. Assumes nothing.
 use native.Mathlib.Omega.{arith}
-use lib.ListN.{length-append}
-use Prim.Native.Nat.{ℕ}
-use mathlib.Core.List.{_++_}
 use Rattle.layout.specs.Bytes.{bytes}
 use Rattle.layout.proofs.Writing.{roomy, then-roomy}
 use Rattle.wire.specs.TidyProperty.{headerWord}

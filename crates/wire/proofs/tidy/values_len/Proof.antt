@@ -1,5 +1,5 @@
 -- `wire::tidy::values_len`: what `measure_row` measures; nothing where it cannot be read. Assumes nothing.
-use mathlib.Core.Path.{_≡_, ap, sym, _∙_}
+use mathlib.Core.Path.{ap, sym}
 use mathlib.Core.List.{[], _∷_}
 use native.Mathlib.Omega.{arith}
 use denote.Ref.{now}

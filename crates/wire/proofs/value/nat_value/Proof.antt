@@ -1,6 +1,4 @@
 -- `wire::value::nat_value`: what `num_at` reads, as a value. Assumes nothing.
-use mathlib.Core.Path.{_∙_}
-use denote.Ref.{now}
 use Rattle.layout.proofs.Reading.{heard, meant, not-meant}
 use Rattle.wire.specs.Layout.{nat}
 use Rattle.wire.specs.Places.{number-is, shapeAt}

@@ -1,5 +1,5 @@
 -- `wire::value::nth_item`: the array is read; an item of it lies within. Assumes nothing.
-use mathlib.Core.Path.{_∙_, ap}
+use mathlib.Core.Path.{ap}
 use Prim.Native.Nat.{_*_, _≤_}
 use native.Mathlib.Nat.{mul-le-mul-right, le-of-lt}
 use native.Mathlib.Omega.{arith}
@@ -7,9 +7,8 @@ use denote.Ref.{now}
 use borrow.Author.Tests.{lt-ltb, le-ltb}
 use Rattle.layout.specs.Answer.{refused}
 use Rattle.layout.proofs.Reading.{heard, follow, stop}
-use Rattle.wire.specs.Layout.{width}
 use Rattle.wire.specs.Places.{itemOf}
-use Rattle.wire.specs.Says.{saysPart, saysKind}
+use Rattle.wire.specs.Says.{saysPart}
 use Rattle.wire.proofs.Agrees.{array-within}
 use borrow.Author.Needs.{needs}
 use Rattle.wire.proofs.value.nth_item.Statement.{statement}

@@ -2,7 +2,6 @@
 use mathlib.Core.Path.{_∙_}
 use denote.Ref.{now}
 use Rattle.layout.proofs.Reading.{heard, meant, not-meant, means-means}
-use Rattle.wire.specs.Layout.{Num}
 use Rattle.wire.specs.Places.{numAt, number-is, shapeAt}
 use Rattle.wire.specs.Says.{saysPair}
 use borrow.Author.Needs.{needs}

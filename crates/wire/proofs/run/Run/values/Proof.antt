@@ -1,5 +1,4 @@
 -- `wire::run::Run::values`: measured where the run goes on, passed by where it has stopped. Assumes nothing.
-use native.Mathlib.Omega.{arith}
 use denote.Ref.{now}
 use Rattle.layout.proofs.Reading.{heard}
 use Rattle.wire.specs.Tidy.{saysMeasured}
