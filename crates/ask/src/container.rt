@@ -1,0 +1,88 @@
+// header, container, write-container.
+use crate::Said;
+use crate::print;
+use crate::words;
+use crate::words::Rest;
+use wire::Container;
+use wire::Cursor;
+use wire::Header;
+use wire::ReadContainer;
+use wire::ReadHeader;
+
+// KIND CODE NUMBER.
+fn leading(text: &mut [u8], at: usize, kind: u16, code: u16, number: u32) -> usize {
+    let a = print::ok(text, at);
+    let b = print::word(text, a, kind as u64);
+    let c = print::word(text, b, code as u64);
+    print::word(text, c, number as u64)
+}
+
+fn header_words(text: &mut [u8], at: usize, h: Header) -> usize {
+    let o = leading(text, at, h.kind, h.code, h.number);
+    print::word(text, o, h.payload_len as u64)
+}
+
+fn header(line: &mut [u8], rest: Rest, text: &mut [u8], at: usize) -> usize {
+    let data = rest.bytes(line);
+    if !data.rest.done(line) {
+        return print::unknown(text, at);
+    }
+    let src = words::counted(line, data.start, data.count);
+    match wire::read_header(src, Cursor { at: 0 }) {
+        ReadHeader::Got(h, _) => header_words(text, at, h),
+        ReadHeader::Refused(f) => print::refused(text, at, f.no),
+    }
+}
+
+fn container_words(text: &mut [u8], at: usize, c: Container) -> usize {
+    let payload = c.payload;
+    let o = leading(text, at, c.kind, c.code, c.number);
+    let a = print::place(text, o, payload.start);
+    print::place(text, a, payload.count)
+}
+
+fn container(line: &mut [u8], rest: Rest, text: &mut [u8], at: usize) -> usize {
+    let data = rest.bytes(line);
+    if !data.rest.done(line) {
+        return print::unknown(text, at);
+    }
+    let src = words::counted(line, data.start, data.count);
+    match wire::read_container(src, Cursor { at: 0 }) {
+        ReadContainer::Got(c, _) => container_words(text, at, c),
+        ReadContainer::Refused(f) => print::refused(text, at, f.no),
+    }
+}
+
+fn write_container(
+    line: &mut [u8],
+    rest: Rest,
+    out: &mut [u8],
+    text: &mut [u8],
+    at: usize,
+) -> usize {
+    let kind = rest.u16(line);
+    let code = kind.rest.u16(line);
+    let number = code.rest.u32(line);
+    let data = number.rest.bytes(line);
+    let size = data.rest.room(line);
+    if !size.rest.done(line) {
+        return print::unknown(text, at);
+    }
+    let src = words::counted(line, data.start, data.count);
+    let page = print::page(out, size.v);
+    let w = wire::write_container(kind.v, code.v, number.v, src, page);
+    print::written(text, at, w, page)
+}
+
+pub fn answer(line: &mut [u8], rest: Rest, out: &mut [u8], text: &mut [u8], at: usize) -> Said {
+    if rest.asks(line, b"header") {
+        return Said::At(header(line, rest, text, at));
+    }
+    if rest.asks(line, b"container") {
+        return Said::At(container(line, rest, text, at));
+    }
+    if rest.asks(line, b"write-container") {
+        return Said::At(write_container(line, rest, out, text, at));
+    }
+    Said::NotMine
+}

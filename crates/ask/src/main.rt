@@ -1,0 +1,158 @@
+// Answers questions, one a line, from standard input (docs/ASK.md). All buffers are made once and lent.
+mod container;
+mod input;
+mod integer;
+mod name;
+mod print;
+mod show;
+mod value;
+mod words;
+
+use input::Held;
+
+// The place after an answer, or that another module has the question.
+enum Said {
+    At(usize),
+    NotMine,
+}
+
+// Where the first line stands that is not answered, and the place after the answers.
+struct Done {
+    start: usize,
+    is_long: bool,
+    at: usize,
+}
+
+fn out_room() -> [u8; 1048576] {
+    [0u8; 1048576]
+}
+
+fn list16() -> [u16; 4096] {
+    [0u16; 4096]
+}
+
+fn answer(
+    line: &mut [u8],
+    out: &mut [u8],
+    halves: &mut [u16],
+    text: &mut [u8],
+    at: usize,
+) -> usize {
+    let rest = words::first(line);
+    if let Said::At(o) = name::answer(line, rest, text, at) {
+        return o;
+    }
+    if let Said::At(o) = value::answer(line, rest, out, halves, text, at) {
+        return o;
+    }
+    if let Said::At(o) = container::answer(line, rest, out, text, at) {
+        return o;
+    }
+    print::unknown(text, at)
+}
+
+// An answer with its line end; of a line that is too long not all is there.
+fn answer_line(
+    line: &mut [u8],
+    is_long: bool,
+    out: &mut [u8],
+    halves: &mut [u16],
+    text: &mut [u8],
+    at: usize,
+) -> usize {
+    if is_long || input::is_too_long(line) {
+        let o = print::unknown(text, at);
+        return print::put(text, o, b'\n');
+    }
+    let o = answer(line, out, halves, text, at);
+    print::put(text, o, b'\n')
+}
+
+// Answers each line that ends before a place; the first has no end in what was held.
+fn answer_lines(
+    lines: &mut [u8],
+    held: Held,
+    end: usize,
+    out: &mut [u8],
+    halves: &mut [u16],
+    text: &mut [u8],
+) -> Done {
+    let mut start: usize = 0;
+    let mut seen = held.end;
+    let mut is_long = held.is_long;
+    let mut at: usize = 0;
+    while seen < end {
+        let stop = words::find(words::part(lines, 0, end), seen, b'\n');
+        if end <= stop {
+            return Done { start, is_long, at };
+        }
+        at = answer_line(
+            words::part_mut(lines, start, stop),
+            is_long,
+            out,
+            halves,
+            text,
+            at,
+        );
+        is_long = false;
+        start = stop + 1;
+        seen = start;
+    }
+    Done { start, is_long, at }
+}
+
+// The last line, which has no end, if there is one.
+fn answer_last(lines: &mut [u8], held: Held, out: &mut [u8], halves: &mut [u16], text: &mut [u8]) {
+    let end = held.end;
+    let is_long = held.is_long;
+    if is_long || 0 < end {
+        let at = answer_line(
+            words::part_mut(lines, 0, end),
+            is_long,
+            out,
+            halves,
+            text,
+            0,
+        );
+        print::flush(text, at);
+    }
+}
+
+fn answer_block(
+    lines: &mut [u8],
+    held: Held,
+    end: usize,
+    out: &mut [u8],
+    halves: &mut [u16],
+    text: &mut [u8],
+) -> Held {
+    let done = answer_lines(lines, held, end, out, halves, text);
+    print::flush(text, done.at);
+    input::keep(lines, done.start, end, done.is_long)
+}
+
+fn run(lines: &mut [u8], out: &mut [u8], halves: &mut [u16], text: &mut [u8]) {
+    let mut held = Held {
+        end: 0,
+        is_long: false,
+    };
+    // the input ends before the turns do
+    let mut turns = u64::MAX;
+    while turns > 0 {
+        let end = input::more(lines, held.end);
+        if end == held.end {
+            answer_last(lines, held, out, halves, text);
+            return;
+        }
+        held = answer_block(lines, held, end, out, halves, text);
+        turns -= 1;
+    }
+}
+
+fn main() {
+    let mut lines = input::room();
+    let mut out = out_room();
+    let mut halves = list16();
+    let mut text = io::large_buffer();
+    run(&mut lines, &mut out, &mut halves, &mut text);
+}
