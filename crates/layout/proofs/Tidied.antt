@@ -3,7 +3,7 @@
 use mathlib.Core.Path.{_≡_, ap}
 use mathlib.Core.Bool.{true}
 use mathlib.Core.List.{List}
-use Prim.Native.Nat.{ℕ, _+_, _≤_}
+use Prim.Native.Nat.{ℕ, _+_, _-_, _≤_}
 use native.Mathlib.Omega.{arith}
 use lib.ListN.{length}
 use Rattle.layout.specs.Answer.{Told, Answer, got, refused, means}
@@ -51,11 +51,11 @@ module _ (x : Answer (List ℕ)) where
 abbrev pub Shrinks : {R : Type 0} → Grammar R → Codec R → Type 0
 Shrinks {R} G F = (w : List ℕ) (r : R) → G loose w r → length (F .write r) ≤ length w
 
-pub shrunk : {R : Type 0} {G : Grammar R} {F : Codec R} → Format G F → Shrinks G F → (s : List ℕ) → Bytes s → (at t n : ℕ) → at ≤ length s → got t n ≡ means length (wordAt F s at) → (at + t ≤ n) × (n ≤ length s)
+pub shrunk : {R : Type 0} {G : Grammar R} {F : Codec R} → Format G F → Shrinks G F → (s : List ℕ) → Bytes s → (at t n : ℕ) → got t n ≡ means length (wordAt F s at) → (at + t ≤ n) × (n ≤ at + (length s - at))
 unfolding means
-shrunk {R} {G} {F} f small s h at t n l e = go (F .read s at) (f .sound s h at) e
+shrunk {R} {G} {F} f small s h at t n e = go (F .read s at) (f .sound s h at) e
   where
-    go : (x : Answer R) → Sound G s at x → got t n ≡ means length (means (F .write) x) → (at + t ≤ n) × (n ≤ length s)
+    go : (x : Answer R) → Sound G s at x → got t n ≡ means length (means (F .write) x) → (at + t ≤ n) × (n ≤ at + (length s - at))
     go (got r m) (word {w} st g) e =
         let a : t ≡ length (F .write r) = cc in
         let b : n ≡ m = cc in

@@ -3,9 +3,9 @@
 use Prim.Native.Nat.{ℕ}
 use Rattle.layout.specs.Faithful.{Faithful}
 use Rattle.layout.proofs.Meets.{faithful}
-use Rattle.wire.specs.Layout.{Text, Value, Row, storage}
-use Rattle.wire.specs.Codecs.{text, value, row}
-use Rattle.wire.proofs.Formats.{text-format, value-format, row-format}
+use Rattle.wire.specs.Layout.{Text, Value, Row, device, object, storage, Property}
+use Rattle.wire.specs.Codecs.{text, value, row, property}
+use Rattle.wire.proofs.Formats.{text-format, value-format, row-format, property-format}
 
 pub texts : Faithful Text text
 texts = faithful text-format
@@ -13,5 +13,14 @@ texts = faithful text-format
 pub values : (t : ℕ) → Faithful (Value t) (value t)
 values t = faithful (value-format t)
 
+pub devices : Faithful (Row device) (row device)
+devices = faithful (row-format device)
+
+pub objects : Faithful (Row object) (row object)
+objects = faithful (row-format object)
+
 pub storages : Faithful (Row storage) (row storage)
 storages = faithful (row-format storage)
+
+pub properties : Faithful Property property
+properties = faithful property-format

@@ -12,9 +12,9 @@ use Rattle.layout.specs.Answer.{pick, badText}
 use Rattle.layout.specs.Bytes.{bytes}
 use Rattle.layout.specs.Grammar.{loose, empty, Number, num, _then_, both, lead, such, as′, Repeat, Spare, Counted}
 use Rattle.layout.specs.Format.{Format}
-use Rattle.layout.proofs.Make.{nothing-format, number-format, then-format, lead-format, such-format, as-format, field-format, repeat-length, spare-format, cells-format, count-format}
-use Rattle.wire.specs.Layout.{signed, Kind, sint, uint, wide, width, meaning, paired, Units, text-count, Text, Shape, one, many, string, undef, shape, Shaped, Value, Row}
-use Rattle.wire.specs.Codecs.{unsigned, number-of, all-units, units, text, array, shaped, value, row}
+use Rattle.layout.proofs.Make.{nothing-format, number-format, then-format, lead-format, such-format, as-format, field-format, repeat-format, repeat-length, spare-format, cells-format, count-format}
+use Rattle.wire.specs.Layout.{signed, Kind, sint, uint, wide, width, meaning, paired, Units, text-count, Text, Shape, one, many, string, undef, shape, Shaped, Value, Row, Form, range, list, no-form, Formed, form-byte, FormOf, reading, Fields, Property}
+use Rattle.wire.specs.Codecs.{unsigned, number-of, all-units, units, text, array, shaped, value, row, three, listed, form-write, formed, form, fields, property}
 
 -- ── the number that a meaning is of ──
 
@@ -80,3 +80,39 @@ value-format t = shape-format (shape t)
 pub row-format : (ts : List ℕ) → Format (Row ts) (row ts)
 row-format [] = nothing-format []
 row-format (t ∷ ts) = as-format _ (then-format (value-format t) λ _. row-format ts) _ λ w a g. refl
+
+-- ── a property's description ──
+
+three-format : (t : ℕ) → Format (Value t then λ _. Value t then λ _. Value t) (three t)
+three-format t = then-format (value-format t) λ _. then-format (value-format t) λ _. value-format t
+
+listed-format : (t : ℕ) → Format (Counted 2 (Value t)) (listed t)
+listed-format t = count-format 2 λ n. repeat-format n (value-format t)
+
+formed-format : (t n : ℕ) → Format (Formed t n) (formed t n)
+formed-format t zero = nothing-format no-form
+formed-format t (suc zero) = as-format _ (three-format t) (form-write t) λ w x g. refl
+formed-format t (suc (suc zero)) = as-format list (listed-format t) (form-write t) λ w x g. refl
+formed-format t (suc (suc (suc n))) = nothing-format no-form
+
+form-home : (t n : ℕ) (u v : List ℕ) (r : Form) → Number 1 loose u n → Formed t n loose v r → ((w : List ℕ) × Number 1 loose w (form-byte r)) × ((w : List ℕ) × Formed t (form-byte r) loose w r)
+form-home t zero u v r g empty = ((bytes 1 0, num {n = 0} (omega arith)), ([], empty))
+form-home t (suc zero) u v r g (as′ {a} h) = ((bytes 1 1, num {n = 1} (omega arith)), (v, as′ {a = a} h))
+form-home t (suc (suc zero)) u v r g (as′ {a} h) = ((bytes 1 2, num {n = 2} (omega arith)), (v, as′ {a = a} h))
+form-home t (suc (suc (suc n))) u v r g empty = ((bytes 1 0, num {n = 0} (omega arith)), ([], empty))
+
+form-format : (t : ℕ) → Format (FormOf t) (form t)
+form-format t = lead-format (number-format 1) form-byte (formed-format t) (form-home t)
+
+fields-format : Format Fields fields
+fields-format =
+    then-format (number-format 2) λ code.
+    then-format (number-format 2) λ type.
+    then-format (number-format 1) λ getset.
+    then-format (number-format 1) λ enable.
+    then-format (value-format type) λ default.
+    then-format (value-format type) λ current.
+    form-format type
+
+pub property-format : Format Property property
+property-format = as-format reading fields-format _ λ w x g. refl

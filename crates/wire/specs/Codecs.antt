@@ -5,9 +5,9 @@ use Prim.Native.Nat.{ℕ, zero, suc, _+_, _-_, _*_, _^_}
 use lib.IntN.{ℤ, pos, negsuc}
 use Rattle.layout.specs.Answer.{badText}
 use Rattle.layout.specs.Bytes.{bytes}
-use Rattle.layout.specs.Codec.{Codec, nothing, numbered, _and_, leading, only, through, field, cons-write, spared, celled, counted}
+use Rattle.layout.specs.Codec.{Codec, nothing, numbered, _and_, leading, only, through, field, cons-write, repeated, spared, celled, counted}
 use Rattle.wire.specs.Layout as L
-use Rattle.wire.specs.Layout.{Kind, sint, uint, wide, width, Num, int, nat, pair, meaning, paired, text-count, Shape, one, many, string, undef, shape, Val, nums, str, nil}
+use Rattle.wire.specs.Layout.{Kind, sint, uint, wide, width, Num, int, nat, pair, meaning, paired, text-count, Shape, one, many, string, undef, shape, Val, nums, str, nil, Form, range, list, no-form, Reading, form-byte, Parts, reading}
 
 -- ── the number that a meaning is of ──
 
@@ -64,3 +64,42 @@ value t = shaped (shape t)
 abbrev pub row : List ℕ → Codec (List Val)
 row [] = nothing []
 row (t ∷ ts) = through (λ x. x .0 ∷ x .1) (value t and λ _. row ts) (λ xs. cons-write ((value t) .write) (λ ys. (row ts) .write ys) xs)
+
+-- ── a property's description ──
+
+-- a reading's parts, in their order
+abbrev pub parts : Reading → Parts
+parts r = (r .code, (r .type, (r .getset, (r .enable, (r .default, (r .current, r .form))))))
+
+abbrev pub three : ℕ → Codec (Val × (Val × Val))
+three t = value t and λ _. value t and λ _. value t
+
+abbrev pub listed : ℕ → Codec (List Val)
+listed t = counted 2 (λ n. repeated n (value t))
+
+abbrev pub form-write : ℕ → Form → List ℕ
+form-write t (range a b c) = (three t) .write (a, (b, c))
+form-write t (list xs) = (listed t) .write xs
+form-write t no-form = []
+
+abbrev pub formed : ℕ → ℕ → Codec Form
+formed t zero = nothing no-form
+formed t (suc zero) = through (λ x. range (x .0) (x .1 .0) (x .1 .1)) (three t) (form-write t)
+formed t (suc (suc zero)) = through list (listed t) (form-write t)
+formed t (suc (suc (suc n))) = nothing no-form
+
+abbrev pub form : ℕ → Codec Form
+form t = leading (numbered 1) form-byte (formed t)
+
+abbrev pub fields : Codec Parts
+fields =
+    numbered 2 and λ code.
+    numbered 2 and λ type.
+    numbered 1 and λ getset.
+    numbered 1 and λ enable.
+    value type and λ default.
+    value type and λ current.
+    form type
+
+abbrev pub property : Codec Reading
+property = through reading fields (λ r. fields .write (parts r))

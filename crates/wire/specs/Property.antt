@@ -1,0 +1,103 @@
+-- A property's description as the code answers it, and what it means.
+-- Assumes nothing.
+use mathlib.Core.List.{List, []}
+use Prim.Native.Nat.{ℕ, _-_}
+use lib.Dec.{eqb}
+use Rattle.layout.specs.Answer.{Answer, got, refused, Reader, pick, after}
+use Rattle.layout.specs.Codec.{repeated}
+use Rattle.wire.specs.Layout.{Val, nil, Form, range, list, no-form, Reading}
+use Rattle.wire.specs.Codecs.{value}
+use Rattle.wire.specs.Places.{numAt}
+use Rattle.wire.specs.declared.property.Slot.{Slot}
+use Rattle.wire.specs.declared.property.Form as F
+use Rattle.wire.specs.declared.property.Form.the-variants as form
+use Rattle.wire.specs.declared.property.PropInfo.{PropInfo}
+use Rattle.wire.specs.declared.property.ReadProperty.{ReadProperty}
+use Rattle.wire.specs.declared.property.ReadProperty.the-variants as readProperty
+
+-- the bytes from a place up to another
+abbrev pub between : ℕ → ℕ → Slot
+between at n = record { start = at; len = n - at }
+
+-- n values of a type, as the bytes that they take; and one
+unfoldable pub valuesAt : ℕ → ℕ → Reader Slot
+valuesAt t n s at = after ((repeated n (value t)) .read s at) λ _ next. got (between at next) next
+
+abbrev pub slotAt : ℕ → Reader Slot
+slotAt t = valuesAt t 1
+
+unfoldable pub rangeAt : ℕ → Reader F.Form
+rangeAt t s at =
+    after (slotAt t s at) λ low a.
+    after (slotAt t s a) λ high b.
+    after (slotAt t s b) λ step next.
+    got (form.Range low high step) next
+
+unfoldable pub listAt : ℕ → Reader F.Form
+listAt t s at =
+    after (numAt 2 s at) λ n start.
+    after (valuesAt t n s start) λ bytes next.
+    got (form.List bytes n) next
+
+-- by the form byte
+unfoldable pub formAt : ℕ → Reader F.Form
+formAt t s at =
+    after (numAt 1 s at) λ b p.
+    pick (eqb b 1) (rangeAt t s p) (pick (eqb b 2) (listAt t s p) (got form.Absent p))
+
+-- field by field, in the layout's order
+unfoldable pub propertyAt : Reader PropInfo
+propertyAt s at =
+    after (numAt 2 s at) λ code a.
+    after (numAt 2 s a) λ type b.
+    after (numAt 1 s b) λ access c.
+    after (numAt 1 s c) λ enable d.
+    after (slotAt type s d) λ default e.
+    after (slotAt type s e) λ current f.
+    after (formAt type s f) λ shape next.
+    got
+    (record {
+      «property_code» = code;
+      «data_type» = type;
+      «get_set» = access;
+      «is_enable» = enable;
+      «factory_default» = default;
+      current = current;
+      form = shape;
+    })
+    next
+
+abbrev pub saysProperty : ReadProperty → Answer PropInfo
+saysProperty (readProperty.Got v c) = got v (c .at)
+saysProperty (readProperty.Refused t) = refused t
+
+-- ── what places mean ──
+
+-- what was read, if it was
+abbrev pub read-or : {A : Type 0} → A → Answer A → A
+read-or a (got b n) = b
+read-or a (refused t) = a
+
+-- the value of a type at a place, and so many of them
+abbrev pub slotIn : ℕ → List ℕ → Slot → Val
+slotIn t s p = read-or nil ((value t) .read s (p .start))
+
+abbrev pub valuesIn : ℕ → List ℕ → Slot → ℕ → List Val
+valuesIn t s p n = read-or [] ((repeated n (value t)) .read s (p .start))
+
+abbrev pub formIn : ℕ → List ℕ → F.Form → Form
+formIn t s (form.Range a b c) = range (slotIn t s a) (slotIn t s b) (slotIn t s c)
+formIn t s (form.List p n) = list (valuesIn t s p n)
+formIn t s form.Absent = no-form
+
+-- the reading that it has in the bytes
+abbrev pub propertyIn : List ℕ → PropInfo → Reading
+propertyIn s x = record {
+  code = x .«property_code»;
+  type = x .«data_type»;
+  getset = x .«get_set»;
+  enable = x .«is_enable»;
+  default = slotIn (x .«data_type») s (x .«factory_default»);
+  current = slotIn (x .«data_type») s (x .current);
+  form = formIn (x .«data_type») s (x .form);
+}
