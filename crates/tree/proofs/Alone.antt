@@ -1,16 +1,17 @@
--- At most one list is listed so.
-use mathlib.Core.Path.{_≡_, refl, sym, ap, subst, _∙_}
-use mathlib.Core.Bool.{Bool, true, false}
-use mathlib.Core.List.{List, [], _∷_, _++_}
-use Prim.Native.Nat.{ℕ, zero, suc, _+_, _-_, _≤_, _<_}
+-- At most one list is listed so: of two, the first of each stands in the other, so if they differed each would be before the other.
+-- Assumes nothing.
+use mathlib.Core.Path.{_≡_, refl, sym, _∙_}
+use mathlib.Core.Bool.{Bool}
+use mathlib.Core.List.{List}
+use Prim.Native.Nat.{ℕ}
 use native.Mathlib.Omega.{arith}
 use lib.Dec.{eqb}
 use Rattle.layout.specs.Answer.{pick}
-use Rattle.tree.specs.Listed.{times, Every, none, more, Sorted, done, next, Listed}
+use Rattle.tree.specs.Listed.{times, Sorted, done, next, Listed}
 use Rattle.tree.proofs.Counts.{equal, hit, miss, every-at}
 
 module _ (Before : ℕ → ℕ → Type 0) (never : (a b : ℕ) → Before a b → Before b a → ⊥) where
-  pub same : {l m : List ℕ} → Sorted Before l → Sorted Before m → ((k : ℕ) → times k l ≡ times k m) → l ≡ m
+  same : {l m : List ℕ} → Sorted Before l → Sorted Before m → ((k : ℕ) → times k l ≡ times k m) → l ≡ m
   same done done e = refl
   same done (next {x = b} {l = m} f t) e = absurd (let h = e b in let j = hit b b m refl in omega arith)
   same (next {x = a} {l = l} f s) done e = absurd (let h = e a in let j = hit a a l refl in omega arith)

@@ -1,8 +1,9 @@
--- How often numbers stand in lists.
+-- How often numbers stand in lists, what holds of every one of a list, and that a list which holds nothing twice and only numbers below n has at most n.
+-- Assumes nothing.
 use mathlib.Core.Path.{_≡_, refl, sym, ap, subst, _∙_}
 use mathlib.Core.Bool.{Bool, true, false}
 use mathlib.Core.List.{List, [], _∷_, _++_}
-use Prim.Native.Nat.{ℕ, zero, suc, _+_, _-_, _≤_, _<_}
+use Prim.Native.Nat.{ℕ, zero, suc, _+_, _≤_, _<_}
 use native.Mathlib.Omega.{arith}
 use borrow.Author.Tests.{eq-eqb, ne-eqb, eqb-true, eqb-false}
 use lib.ListN.{length, getD, take, drop, take-append-drop}
@@ -34,7 +35,7 @@ times-take k i l =
     let g : times k l ≡ times k (take i l) + times k (drop i l) = rw (take-append-drop i l) at h in
     omega arith
 
--- ---- a list that holds nothing twice, and only numbers below n, is at most n long
+-- ── a list that holds nothing twice, and only numbers below n, is at most n long ──
 
 abbrev without : ℕ → List ℕ → List ℕ
 without k [] = []
@@ -74,7 +75,7 @@ pigeon (suc n) l f g =
     let o = f n in
     omega arith
 
--- ---- what holds of every one
+-- ── what holds of every one ──
 
 pub every-at : {P : ℕ → Type 0} (k : ℕ) {l : List ℕ} → Every P l → 0 < times k l → P k
 every-at k none h = absurd (omega arith)

@@ -1,33 +1,37 @@
--- A walk grows: the root, and then what hangs under each place of it in turn.
-use mathlib.Core.Path.{_≡_, refl, sym, ap, subst, _∙_}
+-- The queue grows to the walk: it is the root, and then what hangs under each of its places in turn. A place stands among what hangs under a list as
+-- often as its parent stands in that list, so nothing stands twice, and at the end everything once; and what hangs under a list in order is in order.
+-- Assumes nothing.
+use mathlib.Core.Path.{_≡_, refl, sym, ap, _∙_}
 use mathlib.Core.Bool.{Bool, true, false, _&&_, and-eq-true-iff}
 use mathlib.Core.List.{List, [], _∷_, _++_, append-assoc, append-nil}
 use Prim.Native.Nat.{ℕ, zero, suc, _+_, _-_, _≤_, _<_}
 use native.Mathlib.Nat.{not-suc-le-zero}
 use native.Mathlib.Numerals.{add-one}
 use native.Mathlib.Omega.{arith}
-use borrow.Author.Tests.{eq-eqb, ne-eqb, eqb-true, eqb-false, lt-ltb, le-ltb, ltb-true, ltb-false}
-use lib.ListN.{length, getD, take, drop, length-append}
-use lib.Seq.{take-suc, take-all, take-append-le, sets, sets-eq, take-append-seam, drop-append-add, drop-drop, drop-cons, length-sets}
+use borrow.Author.Tests.{ne-eqb, eqb-true, ltb-true, ltb-false}
+use lib.ListN.{length, getD, take, length-append}
+use lib.Seq.{take-suc, take-all, take-append-le}
 use lib.Dec.{eqb, ltb}
 use Rattle.layout.specs.Answer.{pick}
-use Rattle.tree.specs.Table.{parent, Ruled, Marks}
-use Rattle.tree.specs.Listed.{times, Every, none, more, Sorted, done, next, Listed}
-use Rattle.tree.specs.Way.{way, depth, Before, Walk}
+use Rattle.tree.specs.Facts.{Ruled}
+use Rattle.tree.specs.Table.{parent}
+use Rattle.tree.specs.Listed.{times, Every, none, more, Sorted, done, next}
+use Rattle.tree.specs.Way.{Before, Walk}
 use Rattle.tree.specs.Kids.{hangs, kidsIn, kids}
+use Rattle.tree.proofs.Tables.{Marks}
 use Rattle.tree.proofs.Counts.{equal, hit, miss, times-append, times-take, pigeon, every-map, every-both, every-append, every-get, every-take}
 use Rattle.tree.proofs.Ways.{Kid, before-root, before-kids, before-beside}
 
--- ---- lists in order
+-- ── lists in order ──
 
 module _ {Bef : ℕ → ℕ → Type 0} where
-  pub sorted-take : {l : List ℕ} (i : ℕ) → Sorted Bef l → Sorted Bef (take i l)
+  sorted-take : {l : List ℕ} (i : ℕ) → Sorted Bef l → Sorted Bef (take i l)
   sorted-take zero s = done
   sorted-take (suc i) done = done
   sorted-take (suc i) (next e s) = next (every-take i e) (sorted-take i s)
 
   -- each of b comes after each of a
-  pub sorted-append : {a b : List ℕ} → Sorted Bef a → Sorted Bef b → Every (λ y. Every (λ x. Bef x y) a) b → Sorted Bef (a ++ b)
+  sorted-append : {a b : List ℕ} → Sorted Bef a → Sorted Bef b → Every (λ y. Every (λ x. Bef x y) a) b → Sorted Bef (a ++ b)
   sorted-append done t f = t
   sorted-append (next e s) t f =
       next (every-append e (every-map (λ y g. first g) f)) (sorted-append s t (every-map (λ y g. others g) f))
@@ -39,11 +43,11 @@ module _ {Bef : ℕ → ℕ → Type 0} where
       others (more p g) = g
 
 -- in one order, and so in another
-pub sorted-by : {P : ℕ → Type 0} {R S : ℕ → ℕ → Type 0} {l : List ℕ} → ((x y : ℕ) → P x → P y → R x y → S x y) → Every P l → Sorted R l → Sorted S l
+sorted-by : {P : ℕ → Type 0} {R S : ℕ → ℕ → Type 0} {l : List ℕ} → ((x y : ℕ) → P x → P y → R x y → S x y) → Every P l → Sorted R l → Sorted S l
 sorted-by f none done = done
 sorted-by f (more {x = x} p e) (next g s) = next (every-map (λ y z. f x y p (z .0) (z .1)) (every-both e g)) (sorted-by f e s)
 
--- ---- how often a place stands among those with the parent p
+-- ── how often a place stands among those with the parent p ──
 
 skip : (x k : ℕ) (b : Bool) (l : List ℕ) → (x ≡ k → ⊥) → times x (pick b (k ∷ l) l) ≡ times x l
 skip x k true l e = miss x k l e
@@ -58,11 +62,11 @@ by-less a b true e f g = f (ltb-true a b e)
 by-less a b false e f g = g (ltb-false a b e)
 
 -- marked or not
-pub by-mark : {X : Type 0} (b : Bool) → (b ≡ true → X) → (b ≡ false → X) → X
+by-mark : {X : Type 0} (b : Bool) → (b ≡ true → X) → (b ≡ false → X) → X
 by-mark true f g = f refl
 by-mark false f g = g refl
 
-pub clash : (b : Bool) → b ≡ true → b ≡ false → ⊥
+clash : (b : Bool) → b ≡ true → b ≡ false → ⊥
 clash b p q = let z : _≡_ {A = ℕ} 0 1 = cc in omega arith
 
 module _ (ps : List ℕ) (has : ℕ → Bool) where
@@ -84,12 +88,12 @@ module _ (ps : List ℕ) (has : ℕ → Bool) where
       (λ e. met x k (hangs ps has p k) (kidsIn m ps has (suc k) p) e (front m (suc k) p x (omega arith)) ∙ ap (λ (n : ℕ). pick (hangs ps has p n) 1 0) (sym e))
       (λ e. skip x k (hangs ps has p k) (kidsIn m ps has (suc k) p) e ∙ amid m (suc k) p x (omega arith) (omega arith))
 
-  pub kids-root : (p : ℕ) → times 0 (kids ps has p) ≡ 0
+  kids-root : (p : ℕ) → times 0 (kids ps has p) ≡ 0
   unfolding kids
   kids-root p = front _ (suc p) p 0 (omega arith)
 
   -- a place that is not marked stands there never
-  pub kids-not : (p x : ℕ) → has x ≡ false → times x (kids ps has p) ≡ 0
+  kids-not : (p x : ℕ) → has x ≡ false → times x (kids ps has p) ≡ 0
   unfolding kids
   kids-not p x e =
       by-less x (suc p) _ refl
@@ -99,14 +103,14 @@ module _ (ps : List ℕ) (has : ℕ → Bool) where
       (λ j. behind _ (suc p) p x j))
 
   -- a marked one once under its parent, and under no other
-  pub kids-once : (p x : ℕ) → has x ≡ true → parent ps x < x → x < length ps → times x (kids ps has p) ≡ pick (eqb (parent ps x) p) 1 0
+  kids-once : (p x : ℕ) → has x ≡ true → parent ps x < x → x < length ps → times x (kids ps has p) ≡ pick (eqb (parent ps x) p) 1 0
   unfolding kids
   kids-once p x e h l =
       by-less x (suc p) _ refl
       (λ z. front _ (suc p) p x z ∙ sym (ap (λ (b : Bool). pick {A = ℕ} b 1 0) (ne-eqb (parent ps x) p (λ q. omega arith))))
       (λ z. amid _ (suc p) p x z (omega arith) ∙ ap (λ (b : Bool). pick {A = ℕ} (b && eqb (parent ps x) p) 1 0) e)
 
--- ---- what hangs under each of a list
+-- ── what hangs under each of a list ──
 
 abbrev pub below : List ℕ → (ℕ → Bool) → List ℕ → List ℕ
 below ps has [] = []
@@ -155,7 +159,7 @@ module _ (ps : List ℕ) (rule : Ruled ps) (has : ℕ → Bool) (marks : Marks p
       let b = kids-once ps has p x e (smaller x h e) (marks .place x e) in
       let d = below-times x l h e in omega arith
 
-  -- ---- and in which order
+  -- ── and in which order ──
 
   every-in : (m k p : ℕ) → 0 < k → m ≤ length ps - k → Every (From ps has k p) (kidsIn m ps has k p)
   unfolding kidsIn
@@ -179,15 +183,11 @@ module _ (ps : List ℕ) (rule : Ruled ps) (has : ℕ → Bool) (marks : Marks p
       put true f s = next {x = k} (every-map (λ x g. let z = g .least in omega arith) f) s
       put false f s = s
 
-  pub every-marked : (p : ℕ) → Every (λ x. has x ≡ true) (kids ps has p)
-  unfolding kids
-  every-marked p = every-map (λ x f. f .marked) (every-in _ (suc p) p (omega arith) (omega arith))
-
-  pub every-kid : (p : ℕ) → Every (Kid ps p) (kids ps has p)
+  every-kid : (p : ℕ) → Every (Kid ps p) (kids ps has p)
   unfolding kids
   every-kid p = every-map (λ x f. f .kid) (every-in _ (suc p) p (omega arith) (omega arith))
 
-  pub rising-kids : (p : ℕ) → Sorted _<_ (kids ps has p)
+  rising-kids : (p : ℕ) → Sorted _<_ (kids ps has p)
   unfolding kids
   rising-kids p = sorted-in _ (suc p) p (omega arith) (omega arith)
 
@@ -211,7 +211,7 @@ module _ (ps : List ℕ) (rule : Ruled ps) (has : ℕ → Bool) (marks : Marks p
   sorted-grown : (l : List ℕ) → Sorted (Before ps) l → Sorted (Before ps) (0 ∷ below ps has l)
   sorted-grown l s = next (every-map (λ x k. before-root ps rule x (k .some) (k .there)) (every-below l)) (sorted-below s)
 
-  -- ---- the queue
+  -- ── the queue ──
 
   pub start : Grown ps has 0 (0 ∷ [])
   start = record { fits = omega arith; grows = refl; order = next none done }

@@ -4,5 +4,8 @@ pub mod Ways
 pub mod Grown
 pub mod Tables
 pub mod Scans
+pub mod Routes
+pub mod Trails
 pub mod Unique
 pub mod Tested
+pub mod Examples

@@ -1,24 +1,24 @@
--- The loops: a scan for the places with one parent, and the queue.
-use mathlib.Core.Path.{_≡_, refl, sym, ap, subst, _∙_}
-use mathlib.Core.Bool.{Bool, true, false}
-use mathlib.Core.List.{List, [], _∷_, _++_, append-assoc, append-nil}
-use Prim.Native.Nat.{ℕ, zero, suc, _+_, _-_, _≤_, _<_}
+-- The two loops of the walk: a scan, which still has to put the places from k on that have one parent, and the queue, which grows at each turn.
+-- Assumes nothing.
+use mathlib.Core.Path.{_≡_, refl, ap, _∙_}
+use mathlib.Core.Bool.{Bool, true}
+use mathlib.Core.List.{List, [], _∷_, _++_}
+use Prim.Native.Nat.{ℕ, suc, _+_, _-_, _≤_, _<_}
 use native.Mathlib.Numerals.{add-one}
 use native.Mathlib.Omega.{arith}
 use borrow.Author.Tests.{eq-eqb, ne-eqb}
-use lib.ListN.{length, getD, take, drop, set, length-append, length-drop, length-set, List·getD-append}
+use lib.ListN.{length, getD, drop, set, length-append, length-drop, List·getD-append}
 use lib.Seq.{sets, sets-eq, take-append-seam, drop-append-add, drop-drop, drop-set-lt}
-use lib.Dec.{eqb}
-use Rattle.layout.specs.Answer.{pick}
 use Rattle.layout.specs.Written.{put, Put}
-use Rattle.tree.specs.Table.{parent, Ruled, Marks}
+use Rattle.tree.specs.Facts.{Ruled}
+use Rattle.tree.specs.Table.{parent}
 use Rattle.tree.specs.Kids.{kidsIn, kids}
-use Rattle.tree.specs.Way.{within, Walk}
+use Rattle.tree.specs.Way.{within}
 use Rattle.tree.specs.Says.{Walks}
-use Rattle.tree.proofs.Tables.{all-marked}
+use Rattle.tree.proofs.Tables.{Marks, all-marked}
 use Rattle.tree.proofs.Grown.{Grown, start, room, place, turn, end}
 
--- ---- the scan
+-- ── the scan ──
 
 -- the marked places with the parent p from k on
 unfoldable pub rest : List ℕ → (ℕ → Bool) → ℕ → ℕ → List ℕ
@@ -37,21 +37,19 @@ module _ (ps : List ℕ) (has : ℕ → Bool) (k p : ℕ) where
       let m : length ps - k ≡ suc (length ps - suc k) = omega arith in
       rw (add-one k, m, t, ne-eqb (parent ps k) p e)
 
-  pub rest-not : k < length ps → has k ≡ false → rest ps has k p ≡ rest ps has (k + 1) p
-  unfolding rest kidsIn
-  rest-not h t =
-      let m : length ps - k ≡ suc (length ps - suc k) = omega arith in
-      rw (add-one k, m, t)
-
   pub rest-none : length ps ≤ k → rest ps has k p ≡ []
   unfolding rest kidsIn
   rest-none h = let m : length ps - k ≡ 0 = omega arith in rw m
+
+pub none-left : (l : List ℕ) → length l ≡ 0 → l ≡ []
+none-left [] e = refl
+none-left (x ∷ l) e = absurd (omega arith)
 
 pub rest-start : (ps : List ℕ) (has : ℕ → Bool) (p : ℕ) → rest ps has (p + 1) p ≡ kids ps has p
 unfolding rest kids
 rest-start ps has p = rw (add-one p)
 
--- ---- the queue
+-- ── the queue ──
 
 -- the queue stands at the front of `now`, and behind it is what was in `old`
 pub record Queue (ps : List ℕ) (has : ℕ → Bool) (old now : List ℕ) (n i : ℕ) : Type 0 where

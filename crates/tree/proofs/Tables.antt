@@ -1,7 +1,7 @@
 -- The table's rule as a test and as facts. The test goes entry by entry, so that a loop may carry "what is left of the test is the test", and an
 -- induction over the entries turns the test into the facts.
 -- Assumes nothing.
-use mathlib.Core.Path.{_≡_, refl, sym, _∙_}
+use mathlib.Core.Path.{_≡_, refl}
 use mathlib.Core.Bool.{Bool, true, false, _&&_, and-eq-true-iff}
 use mathlib.Core.List.{List, [], _∷_}
 use Prim.Native.Nat.{ℕ, zero, suc, _+_, _-_, _≤_, _<_}
@@ -12,9 +12,10 @@ use borrow.Author.Tests.{ne-eqb, eqb-true, ltb-true, leb-true, lt-ltb}
 use lib.ListN.{length, getD, take, drop, drop-of-length-le}
 use lib.Dec.{ltb, leb, eqb}
 use lib.Seq.{drop-cons}
-use Rattle.layout.specs.Answer.{Told, Answer, got, refused, bare, pick}
+use Rattle.layout.specs.Answer.{Told, got, refused, bare, pick}
 use Rattle.layout.proofs.Reading.{follow, stop}
-use Rattle.tree.specs.Table.{Table, parent, kept, keptFrom, parentsOk, Ruled, Marks, risesFrom, startOf, endOf, Rising, tableOk, nameAt, namesFrom, tableAt}
+use Rattle.tree.specs.Facts.{Ruled, Rising, Kept}
+use Rattle.tree.specs.Table.{Table, parent, kept, keptFrom, parentsOk, risesFrom, startOf, endOf, tableOk, nameAt, namesFrom, tableAt}
 use Rattle.tree.specs.Way.{within}
 
 -- ── the parent entries ──
@@ -43,11 +44,6 @@ all (p ∷ ps) i e (suc k) h l =
     let r = all ps (suc i) (and-eq-true-iff (kept i p) (keptFrom (suc i) ps) .0 e .1) k (omega arith) (omega arith) in
     omega arith
 
-first : (ps : List ℕ) → keptFrom 0 ps ≡ true → getD ps 0 0 ≡ 0
-unfolding keptFrom
-first [] e = refl
-first (p ∷ ps) e = eqb-true p 0 (and-eq-true-iff (eqb p 0) _ .0 e .0)
-
 pub ruled : (ps : List ℕ) → parentsOk ps ≡ true → Ruled ps
 ruled ps e =
     let a = and-eq-true-iff (ltb 0 (length ps) && leb (length ps) 1024) (keptFrom 0 ps) .0 e in
@@ -55,9 +51,14 @@ ruled ps e =
     record {
       some = ltb-true 0 (length ps) (b .0);
       few = leb-true (length ps) 1024 (b .1);
-      root = first ps (a .1);
       smaller = λ k h l. rw zero-add at (all ps 0 (a .1) k (omega arith) l);
     }
+
+-- which places a question is of: the root is marked, only places are, and so is the parent of what is
+pub record Marks (ps : List ℕ) (has : ℕ → Bool) : Type 0 where
+  pub root : has 0 ≡ true
+  pub place : (k : ℕ) → has k ≡ true → k < length ps
+  pub up : (k : ℕ) → 0 < k → has k ≡ true → has (parent ps k) ≡ true
 
 -- all places of a table may be marked
 pub all-marked : (ps : List ℕ) → Ruled ps → Marks ps (within ps)
@@ -117,23 +118,15 @@ names-end k es ns h = let m : length es - k ≡ 0 = omega arith in rw m
 
 -- ── the table ──
 
--- what the rule gives
-pub record Kept (t : Table) : Type 0 where
-  pub handled : length (t .handles) ≡ length (t .parents)
-  pub ended : length (t .ends) ≡ length (t .parents)
-  pub ruling : Ruled (t .parents)
-  pub spaced : Rising (t .ends) (length (t .names))
-
-pub kept-table : (t : Table) → tableOk t ≡ true → Kept t
+pub kept-table : (t : Table) → tableOk t ≡ true → Kept (t .parents) (t .ends) (t .names)
 unfolding tableOk
 kept-table t e =
     let a = and-eq-true-iff (eqb (length (t .handles)) (length (t .parents)) && eqb (length (t .ends)) (length (t .parents)) && parentsOk (t .parents)) _ .0 e in
     let b = and-eq-true-iff (eqb (length (t .handles)) (length (t .parents)) && eqb (length (t .ends)) (length (t .parents))) _ .0 (a .0) in
     let d = and-eq-true-iff (eqb (length (t .handles)) (length (t .parents))) _ .0 (b .0) in
     record {
-      handled = eqb-true _ _ (d .0);
-      ended = eqb-true _ _ (d .1);
       ruling = ruled (t .parents) (b .1);
+      ended = eqb-true _ _ (d .1);
       spaced = rising (t .ends) (length (t .names)) (a .1);
     }
 
@@ -146,7 +139,7 @@ unfolding tableAt
 table-names t e = rw e
 
 -- an accepted table keeps the rule
-pub accepted : (t : Table) {n : ℕ} → got tt n ≡ tableAt t → Kept t
+pub accepted : (t : Table) {n : ℕ} → got tt n ≡ tableAt t → Kept (t .parents) (t .ends) (t .names)
 unfolding tableAt
 accepted t {n} e = kept-table t (go (tableOk t) e)
   where

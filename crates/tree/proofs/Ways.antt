@@ -1,40 +1,42 @@
--- Ways by the parent's way, and the two orders.
-use mathlib.Core.Path.{_≡_, refl, sym, ap, subst, _∙_}
+-- Ways by the parent's way, and the order that goes by them: no two places are each before the other, so a table has one walk; and what hangs
+-- under an earlier place comes before what hangs under a later one.
+-- Assumes nothing.
+use mathlib.Core.Path.{_≡_, refl, ap, _∙_}
 use mathlib.Core.Bool.{Bool, true, false}
 use mathlib.Core.List.{List, [], _∷_, _++_}
-use Prim.Native.Nat.{ℕ, zero, suc, _+_, _-_, _≤_, _<_}
+use Prim.Native.Nat.{ℕ, zero, suc, _<_}
 use native.Mathlib.Nat.{not-suc-le-zero}
 use native.Mathlib.Omega.{arith}
-use borrow.Author.Tests.{eq-eqb, ne-eqb, eqb-true, eqb-false}
-use lib.ListN.{length, getD, length-append}
-use lib.Dec.{eqb, ltb}
+use borrow.Author.Tests.{eq-eqb, ne-eqb, eqb-false}
+use lib.ListN.{length, length-append}
+use lib.Dec.{eqb}
 use Rattle.layout.specs.Answer.{pick}
-use Rattle.tree.specs.Table.{parent, Ruled}
-use Rattle.tree.specs.Listed.{Listed}
+use Rattle.tree.specs.Facts.{Ruled}
+use Rattle.tree.specs.Table.{parent}
 use Rattle.tree.specs.Way.{climbed, fromRoot, way, depth, Left, here, there, stops, Before, higher, beside, Walk}
 use Rattle.tree.proofs.Counts.{equal}
 use Rattle.tree.proofs.Alone.{unique}
 
--- ---- left to right
+-- ── left to right ──
 
-pub left-never : {s t : List ℕ} → Left s t → Left t s → ⊥
+left-never : {s t : List ℕ} → Left s t → Left t s → ⊥
 left-never (here h) (here g) = omega arith
 left-never (here h) (there q) = omega arith
 left-never (there p) (here g) = omega arith
 left-never (there p) (there q) = left-never p q
 
-pub left-on : {s t : List ℕ} (x y : List ℕ) → length s ≡ length t → Left s t → Left (s ++ x) (t ++ y)
+left-on : {s t : List ℕ} (x y : List ℕ) → length s ≡ length t → Left s t → Left (s ++ x) (t ++ y)
 left-on x y e (here h) = here h
 left-on x y e (there p) = there (left-on x y (omega arith) p)
 left-on x y e stops = absurd (omega arith)
 
-pub left-last : (s : List ℕ) {a b : ℕ} → a < b → Left (s ++ a ∷ []) (s ++ b ∷ [])
+left-last : (s : List ℕ) {a b : ℕ} → a < b → Left (s ++ a ∷ []) (s ++ b ∷ [])
 left-last [] h = here h
 left-last (x ∷ s) h = there (left-last s h)
 
--- ---- no two places are each before the other
+-- ── no two places are each before the other ──
 
-pub never : (ps : List ℕ) (a b : ℕ) → Before ps a b → Before ps b a → ⊥
+never : (ps : List ℕ) (a b : ℕ) → Before ps a b → Before ps b a → ⊥
 never ps a b (higher h) (higher g) = omega arith
 never ps a b (higher h) (beside e p) = omega arith
 never ps a b (beside e p) (higher g) = omega arith
@@ -44,7 +46,7 @@ never ps a b (beside e p) (beside f q) = left-never p q
 pub one-walk : (ps : List ℕ) (has : ℕ → Bool) (l m : List ℕ) → Walk ps has l → Walk ps has m → l ≡ m
 one-walk ps has l m p q = unique (Before ps) (never ps) has l m p q
 
--- ---- ways
+-- ── ways ──
 
 pick-same : {A : Type 0} (b : Bool) (x y z : A) → (b ≡ false → y ≡ z) → pick b x y ≡ pick b x z
 pick-same true x y z e = refl
@@ -78,7 +80,7 @@ pub way-root : (ps : List ℕ) → way ps 0 ≡ 0 ∷ []
 unfolding way
 way-root ps = at-root _ _ ps 0 refl
 
-pub depth-root : (ps : List ℕ) → depth ps 0 ≡ 1
+depth-root : (ps : List ℕ) → depth ps 0 ≡ 1
 unfolding depth
 depth-root ps = rw (way-root ps)
 
@@ -93,7 +95,7 @@ module _ (ps : List ℕ) (rule : Ruled ps) where
   unfolding way
   way-step k h l = by-parent _ _ ps rule k h l
 
-  pub depth-step : (k : ℕ) → 0 < k → k < length ps → depth ps k ≡ suc (depth ps (parent ps k))
+  depth-step : (k : ℕ) → 0 < k → k < length ps → depth ps k ≡ suc (depth ps (parent ps k))
   unfolding depth
   depth-step k h l = rw (way-step k h l) (simp length-append (omega arith))
 
@@ -112,7 +114,7 @@ module _ (ps : List ℕ) (rule : Ruled ps) where
   kid-depth : {p x : ℕ} → Kid ps p x → depth ps x ≡ suc (depth ps p)
   kid-depth {p} {x} k = depth-step x (k .some) (k .there) ∙ ap (λ (n : ℕ). suc (depth ps n)) (k .up)
 
-  pub kid-way : {p x : ℕ} → Kid ps p x → way ps x ≡ way ps p ++ x ∷ []
+  kid-way : {p x : ℕ} → Kid ps p x → way ps x ≡ way ps p ++ x ∷ []
   kid-way {p} {x} k = way-step x (k .some) (k .there) ∙ ap (λ (n : ℕ). way ps n ++ x ∷ []) (k .up)
 
   same-length : (p q : ℕ) → depth ps p ≡ depth ps q → length (way ps p) ≡ length (way ps q)

@@ -1,5 +1,7 @@
 pub mod Table
 pub mod Listed
 pub mod Way
-pub mod Kids
+pub mod Path
 pub mod Says
+pub mod Facts
+pub mod Kids

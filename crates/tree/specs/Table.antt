@@ -1,9 +1,8 @@
 -- The table of objects: its rule, and its answer to every question where the rule is broken.
 -- Assumes nothing.
-use mathlib.Core.Path.{_≡_}
-use mathlib.Core.Bool.{Bool, true, false, _&&_}
+use mathlib.Core.Bool.{Bool, true, _&&_}
 use mathlib.Core.List.{List, [], _∷_}
-use Prim.Native.Nat.{ℕ, zero, suc, _-_, _≤_, _<_}
+use Prim.Native.Nat.{ℕ, zero, suc, _-_}
 use lib.ListN.{length, getD, take, drop}
 use lib.Dec.{leb, ltb, eqb}
 use Rattle.layout.specs.Answer.{Answer, got, refused, bare, pick, after}
@@ -37,19 +36,6 @@ keptFrom k (p ∷ ps) = kept k p && keptFrom (suc k) ps
 abbrev pub parentsOk : List ℕ → Bool
 parentsOk ps = ltb 0 (length ps) && leb (length ps) 1024 && keptFrom 0 ps
 
--- the same as facts
-pub record Ruled (ps : List ℕ) : Type 0 where
-  pub some : 0 < length ps
-  pub few : length ps ≤ 1024
-  pub root : parent ps 0 ≡ 0
-  pub smaller : (k : ℕ) → 0 < k → k < length ps → parent ps k < k
-
--- which places a question is of: the root is marked, only places are, and so is the parent of what is
-pub record Marks (ps : List ℕ) (has : ℕ → Bool) : Type 0 where
-  pub root : has 0 ≡ true
-  pub place : (k : ℕ) → has k ≡ true → k < length ps
-  pub up : (k : ℕ) → 0 < k → has k ≡ true → has (parent ps k) ≡ true
-
 -- ── the ends of the names ──
 
 -- no end is before the one that came before it, or past the buffer
@@ -66,11 +52,6 @@ endOf es k = getD es k 0
 
 abbrev pub nameBytes : List ℕ → List ℕ → ℕ → List ℕ
 nameBytes es ns k = take (endOf es k - startOf es k) (drop (startOf es k) ns)
-
--- the same as facts
-pub record Rising (es : List ℕ) (size : ℕ) : Type 0 where
-  pub rises : (k : ℕ) → k < length es → startOf es k ≤ endOf es k
-  pub within : (k : ℕ) → k < length es → endOf es k ≤ size
 
 -- ── 11 ──
 

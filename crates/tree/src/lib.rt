@@ -1,7 +1,12 @@
 // The object table: its rule, its walk and its paths. What is right is in specs/.
+mod climb;
+mod every;
+mod name;
 mod queue;
 mod table;
 
+pub use climb::path;
+pub use every::paths;
 use layout::Refusal;
 pub use queue::walk;
 pub use table::check_table;

@@ -1,9 +1,9 @@
 // The walk of a table, breadth first, by a fixed queue.
-ghost use mathlib.Core.Path.{_≡_};
 ghost use Prim.Native.Nat.{_+_, _≤_, _<_};
 ghost use lib.ListN.{length};
 ghost use Rattle.layout.specs.Written.{Put};
-ghost use Rattle.tree.specs.Table.{table, Ruled};
+ghost use Rattle.tree.specs.Facts.{Ruled};
+ghost use Rattle.tree.specs.Table.{table};
 ghost use Rattle.tree.specs.Kids.{kids};
 ghost use Rattle.tree.specs.Way.{within};
 ghost use Rattle.tree.specs.Says.{Walks, OrderSays};
@@ -11,13 +11,17 @@ use crate::Checked;
 use crate::Order;
 use crate::table;
 
-// Puts the places whose parent is `p` behind the first `count`.
+// Puts the places whose parent is `p` behind the first `count`. Where all places are there, none is left to look for.
 fn add_kids(parents: &[u16], p: usize, places: &mut [u16], count: usize) -> usize
     requires { ⌜ length (now parents) ≤ 1024 ⌝ }
     requires { ⌜ p < length (now parents) ⌝ }
-    requires { ⌜ count + length (kids (now parents) (within (now parents)) p) ≤ length (now places) ⌝ }
+    requires { ⌜ count + length (kids (now parents) (within (now parents)) p) ≤ length (now parents) ⌝ }
+    requires { ⌜ length (now parents) ≤ length (now places) ⌝ }
     ensures { λ r. ⌜ Put (now (places .entry)) count (kids (now (parents .entry)) (within (now (parents .entry))) p) (now (places .exit)) r ⌝ }
 {
+    if count == parents.len() {
+        return count;
+    }
     let mut n = count;
     let mut k = p + 1;
     while k < parents.len() {

@@ -1,10 +1,10 @@
 // The table's rule: 11, then each name's 1, 2, 3.
 ghost use mathlib.Core.Path.{_≡_};
 ghost use mathlib.Core.Bool.{_&&_};
-ghost use Prim.Native.Nat.{_≤_};
 ghost use lib.Dec.{leb};
 ghost use lib.ListN.{length};
-ghost use Rattle.tree.specs.Table.{table, kept, keptFrom, risesFrom, Rising, tableOk, nameAt, namesFrom, tableAt};
+ghost use Rattle.tree.specs.Facts.{Rising};
+ghost use Rattle.tree.specs.Table.{table, kept, keptFrom, risesFrom, tableOk, nameAt, namesFrom, tableAt};
 ghost use Rattle.tree.specs.Says.{saysChecked};
 use crate::Checked;
 use wire::Cursor;

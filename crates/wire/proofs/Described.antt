@@ -152,6 +152,13 @@ value-from t s at v n e = go (valueAt t s at) ((values t) .inside s at) ((values
     go (got l m) (lies l′ m′ h i) e = let f : m ≡ n = cc in omega arith
     go (refused u) nowhere e = zero-one (cc)
 
+pub located-from : (t : ℕ) (s : List ℕ) (at : ℕ) (l : Located) (n : ℕ) → got l n ≡ valueAt t s at → at ≤ n
+located-from t s at l n e = go (valueAt t s at) ((values t) .inside s at) e
+  where
+    go : (x : Answer Located) → Lies (shape-parts (shape t)) at x → got l n ≡ x → at ≤ n
+    go (got k m) (lies k′ m′ h i) e = let f : n ≡ m = cc in omega arith
+    go (refused u) nowhere e = zero-one (cc)
+
 values-from : (t m : ℕ) (s : List ℕ) (at : ℕ) (vs : List Val) (n : ℕ) → (repeated m (value t)) .read s at ≡ got vs n → at ≤ n
 unfolding means after
 values-from t zero s at vs n e = let f : at ≡ n = cc in omega arith

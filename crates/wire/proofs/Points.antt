@@ -12,13 +12,16 @@ use lib.ListN.{length, take, drop, length-append}
 use lib.Seq.{drop-drop}
 use Rattle.layout.specs.Answer.{Told, Answer, got, refused, pick, after, means, badText, spanAt, fieldAt}
 use Rattle.layout.specs.Bytes.{Bytes, bytes, number, cells}
-use Rattle.layout.specs.Written.{spelling}
+use Rattle.layout.specs.Written.{Put, spelling}
+use Rattle.layout.proofs.Determined.{Tells}
 use Rattle.layout.proofs.Make.{Spanned, short, spanned, there}
 use Rattle.layout.proofs.Numbers.{Bytes-drop, bytes-number}
 use Rattle.layout.proofs.Tidied.{zero-one}
 use Rattle.wire.specs.declared.Part.{Part}
 use Rattle.wire.specs.Layout.{high, paired}
 use Rattle.wire.specs.Places.{numAt, unitsAt, textAt, itemsIn}
+use Rattle.wire.specs.Tidy.{saysMeasured}
+use Rattle.wire.specs.declared.write.Measured.the-variants as measured
 use Rattle.wire.specs.Utf8.{pairPoint, points, encoded, encodedAll, utf8, utf8At, Leads}
 use Rattle.wire.proofs.Spelled.{length-cells}
 
@@ -155,7 +158,7 @@ unfolding encodedAll
 all-few [] = omega arith
 all-few (c ∷ cs) = omega (arith, length-append (encoded c) (encodedAll cs), encoded-few c, all-few cs)
 
-utf8-few : (us : List ℕ) → length (utf8 us) ≤ 4 * length us
+pub utf8-few : (us : List ℕ) → length (utf8 us) ≤ 4 * length us
 unfolding utf8
 utf8-few us = omega (arith, all-few (points us), points-few us)
 
@@ -201,3 +204,14 @@ utf8-short s h at = go (textAt s at) (text-few s h at)
     go : (x : Answer Part) → ((part : Part) (n : ℕ) → got part n ≡ x → part .count ≤ 254) → length (spelling (means (λ p. utf8 (itemsIn 2 s p)) x)) ≤ 1016
     go (got p n) f = omega (arith, f p n refl, utf8-few (itemsIn 2 s p), length-cells 2 (p .count) (drop (p .start) s))
     go (refused t) f = omega arith
+
+-- ── two answers that a promise allows are equal ──
+
+pub tells-measured : Tells saysMeasured
+tells-measured (measured.Whole t n) (measured.Whole u m) e = cc
+tells-measured (measured.Whole t n) (measured.Refused u) e = zero-one (cc)
+tells-measured (measured.Refused t) (measured.Whole u m) e = zero-one (cc)
+tells-measured (measured.Refused t) (measured.Refused u) e = cc
+
+pub one-put : {old new new′ bs : List ℕ} {at next next′ : ℕ} → Put old at bs new next → Put old at bs new′ next′ → (new ≡ new′) × (next ≡ next′)
+one-put p q = (p .bytes ∙ sym (q .bytes), p .place ∙ sym (q .place))

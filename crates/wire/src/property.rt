@@ -20,7 +20,7 @@ pub struct Slot {
 pub enum Form {
     Absent,
     Range(Slot, Slot, Slot),
-    List(Slot, usize),
+    List(Slot, u16),
 }
 
 pub struct PropInfo {
@@ -98,8 +98,8 @@ impl Run {
         ensures { λ o. ⌜ ran (o .run) (o .v) ≡ after (here self) (λ _ p. listAt code (now (s .entry)) p) ⌝ }
     {
         let count = self.number(s, 2);
-        let n = count.v as usize;
-        let all = count.run.values(s, code, n);
+        let n = count.v as u16;
+        let all = count.run.values(s, code, n as usize);
         let bytes = all.v;
         let run = all.run;
         RunForm {

@@ -1,6 +1,7 @@
 // Strings in UTF-8. Two passes: measure, then put.
 ghost use mathlib.Core.Path.{_≡_};
 ghost use Prim.Native.Nat.{_-_, _*_, _≤_, _<_};
+ghost use lib.Dec.{leb};
 ghost use lib.ListN.{length, drop};
 ghost use Rattle.layout.specs.Answer.{means};
 ghost use Rattle.layout.specs.Bytes.{number, cells};
@@ -88,6 +89,20 @@ fn units_len(s: &[u8], start: usize, count: usize) -> usize
     need
 }
 
+// Whether these units have room. No unit needs more than four bytes, so they are measured only where that might be too much.
+fn has_room(s: &[u8], start: usize, count: usize, out: &[u8], o: usize) -> bool
+    requires { ⌜ count * 2 ≤ length (now s) - start ⌝ }
+    ensures { λ r. ⌜ r ≡ leb (length (utf8 (cells 2 count (drop start (now (s .entry)))))) (length (now (out .entry)) - o) ⌝ }
+{
+    if let Span::Till(_) = field::span_at(out, o, o, count * 4) {
+        return true;
+    }
+    if let Span::Till(_) = field::span_at(out, o, o, units_len(s, start, count)) {
+        return true;
+    }
+    false
+}
+
 fn put_units(s: &[u8], start: usize, count: usize, out: &mut [u8], o: usize) -> usize
     requires { ⌜ count * 2 ≤ length (now s) - start ⌝ }
     requires { ⌜ length (utf8 (cells 2 count (drop start (now s)))) ≤ length (now out) - o ⌝ }
@@ -134,11 +149,10 @@ impl Cursor {
             ReadPart::Got(part, _) => {
                 let start = part.start;
                 let count = part.count;
-                let need = units_len(s, start, count);
-                match field::span_at(out, o, o, need) {
-                    Span::Till(_) => put_units(s, start, count, out, o),
-                    Span::Refused(_) => o,
+                if !has_room(s, start, count, out, o) {
+                    return o;
                 }
+                put_units(s, start, count, out, o)
             }
             ReadPart::Refused(_) => o,
         }

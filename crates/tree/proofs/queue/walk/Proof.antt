@@ -1,5 +1,5 @@
 -- `tree::queue::walk`: an accepted table keeps the rule, and so has its walk. Assumes nothing.
-use mathlib.Core.Path.{_≡_, refl, sym}
+use mathlib.Core.Path.{refl, sym}
 use borrow.Author.Needs.{needs}
 use Rattle.layout.proofs.Reading.{heard}
 use Rattle.tree.specs.Says.{saysChecked, order, no-order}

@@ -1,5 +1,5 @@
 -- `tree::table::check_name`: the string's answer, then whether it ends where the part does. Assumes nothing.
-use mathlib.Core.Path.{_≡_, refl, ap}
+use mathlib.Core.Path.{ap}
 use borrow.Author.Needs.{needs}
 use borrow.Author.Tests.{eq-eqb, ne-eqb}
 use Rattle.layout.specs.Answer.{refused}

@@ -1,5 +1,5 @@
 -- `wire::Cursor::utf8_len`: the string is read, and its units measured. Assumes nothing.
-use mathlib.Core.Path.{_≡_, ap}
+use mathlib.Core.Path.{ap}
 use Prim.Native.Nat.{ℕ}
 use borrow.Author.Needs.{needs}
 use denote.Ref.{now}

@@ -8,7 +8,7 @@ use Rattle.wire.proofs.run.Run.list.Tie as tie
 returns : tie.Need-returns
 unfolding listAt
 returns c =
-    link _ _ _ _ _ (c .before .before .before .number .ensures .says)
+    link _ _ _ _ _ (c .before .before .before .before .number .ensures .says)
     (link _ _ _ _ _ (c .before .before .values .ensures)
     (kept _ _))
 
@@ -17,5 +17,7 @@ list-spec =
     tie.close
     (tie.spec
     (λ c κs. search needs)
+    (λ c. record { fits = c .before .number .ensures .small })
+    (λ c. search needs)
     (λ c κs. search needs)
     returns)

@@ -1,0 +1,152 @@
+-- All paths, end to end, one at a time: what is left after the first i is the paths of the places that are left. And what is said of all of them.
+-- Assumes nothing.
+use mathlib.Core.Path.{_≡_, refl, sym, ap, _∙_}
+use mathlib.Core.Bool.{Bool, true, false}
+use mathlib.Core.List.{List, [], _∷_, _++_}
+use Prim.Native.Nat.{ℕ, suc, _+_, _*_, _≤_, _<_}
+use native.Mathlib.Numerals.{add-one}
+use native.Mathlib.Omega.{arith}
+use borrow.Author.Tests.{le-leb, lt-leb, leb-true, leb-false, ltb-true}
+use lib.Dec.{leb, ltb}
+use lib.ListN.{length, getD, take, drop, length-append, drop-of-length-le}
+use lib.Seq.{drop-cons, take-at}
+use Rattle.layout.specs.Answer.{Told, got, refused, bare, pick}
+use Rattle.layout.specs.Bytes.{Bytes}
+use Rattle.layout.specs.Written.{says, no, Put, leftOf}
+use Rattle.layout.proofs.Tidied.{zero-one}
+use Rattle.layout.proofs.Writing.{refusal, no-room, done}
+use Rattle.tree.specs.Facts.{Ruled, Kept, Listing}
+use Rattle.tree.specs.Listed.{times, Every, none, more}
+use Rattle.tree.specs.Table.{Table, tableAt}
+use Rattle.tree.specs.Way.{within, Walk}
+use Rattle.tree.specs.Path.{pathOf, joined, endsFrom, pathsSaid, endsSaid, AllPaths}
+use Rattle.tree.specs.Says.{Walks}
+use Rattle.tree.proofs.Counts.{hit, pigeon}
+use Rattle.tree.proofs.Routes.{path-short}
+
+-- ── one at a time ──
+
+module _ (ps es ns l : List ℕ) (i : ℕ) where
+  pub joined-step : i < length l → joined ps es ns (drop i l) ≡ pathOf ps es ns (getD l i 0) ++ joined ps es ns (drop (i + 1) l)
+  unfolding joined
+  joined-step h = rw (add-one, drop-cons l i 0)
+
+  pub joined-none : length l ≤ i → joined ps es ns (drop i l) ≡ []
+  unfolding joined
+  joined-none h = rw (drop-of-length-le l)
+
+  pub ends-step : i < length l → (at o : ℕ) → o ≡ at + length (pathOf ps es ns (getD l i 0)) → endsFrom at ps es ns (drop i l) ≡ o ∷ endsFrom o ps es ns (drop (i + 1) l)
+  unfolding endsFrom
+  ends-step h at o e = rw (add-one, drop-cons l i 0, e)
+
+  pub ends-none : length l ≤ i → (at : ℕ) → endsFrom at ps es ns (drop i l) ≡ []
+  unfolding endsFrom
+  ends-none h at = rw (drop-of-length-le l)
+
+ends-long : (ps es ns l : List ℕ) (at : ℕ) → length (endsFrom at ps es ns l) ≡ length l
+unfolding endsFrom
+ends-long ps es ns [] at = refl
+ends-long ps es ns (k ∷ l) at = ap suc (ends-long ps es ns l (at + length (pathOf ps es ns k)))
+
+-- ── how long they can be ──
+
+joined-few : (ps es ns : List ℕ) → Ruled ps → Bytes ns → {l : List ℕ} → Every (λ k. k < length ps) l → length (joined ps es ns l) ≤ length l * 1041408
+unfolding joined
+joined-few ps es ns rule h none = omega arith
+joined-few ps es ns rule h (more {x = k} {l = l} p e) =
+    omega (arith, length-append (pathOf ps es ns k) (joined ps es ns l), path-short ps es ns rule h k p, joined-few ps es ns rule h e)
+
+-- 32 bits are enough for an end
+pub joined-short : {ps es ns l : List ℕ} → Listing ps es ns l → Bytes ns → length (joined ps es ns l) ≤ 1066401792
+joined-short {ps} {es} {ns} {l} g h = omega (arith, joined-few ps es ns (g .kept .ruling) h (g .places), g .few)
+
+-- ── the walk's places ──
+
+every-there : {P : ℕ → Type 0} (l : List ℕ) → ((k : ℕ) → 0 < times k l → P k) → Every P l
+every-there [] f = none
+every-there (x ∷ l) f = more (f x (omega (arith, hit x x l refl))) (every-there l (λ k h. f k (omega arith)))
+
+once-there : (n k t : ℕ) (b : Bool) → ltb k n ≡ b → t ≡ pick b 1 0 → (t ≤ 1) × (0 < t → k < n) × (n ≤ k → t ≡ 0)
+once-there n k t true e h = let j = ltb-true k n e in (omega arith, λ p. j, λ p. absurd (omega arith))
+once-there n k t false e h = (omega arith, λ p. absurd (omega arith), λ p. h)
+
+pub listing : {ps es ns l : List ℕ} → Kept ps es ns → Walk ps (within ps) l → Listing ps es ns l
+listing {ps} {es} {ns} {l} kept w =
+    let at : (k : ℕ) → (times k l ≤ 1) × (0 < times k l → k < length ps) × (length ps ≤ k → times k l ≡ 0) = λ k. once-there (length ps) k (times k l) (ltb k (length ps)) refl (w .once k) in
+    let few = pigeon (length ps) l (λ k. at k .0) (λ k. at k .2) in
+    let most = kept .ruling .few in
+    record { kept = kept; places = every-there l (λ k. at k .1); few = omega arith }
+
+-- the front of the queue is the walk
+pub front : {ps old new : List ℕ} {n : ℕ} → Walks ps old n new → Walk ps (within ps) (take n new) × (length (take n new) ≡ n) × (n ≤ length new)
+front {ps} {old} {new} {n} w =
+    let e : take n new ≡ w .list = rw (w .places) (take-at (w .list) (drop (length (w .list)) old) n (sym (w .count))) in
+    (rw e (w .walk), ap length e ∙ sym (w .count), omega (arith, w .count, simp length-append at (ap length (w .places))))
+
+-- ── what is said of all ──
+
+module _ (t : Table) (out ends : List ℕ) where
+  pub all-refused : {why : Told} → refused why ≡ tableAt t → AllPaths t out ends (refused why) out ends
+  unfolding pathsSaid endsSaid leftOf
+  all-refused e = record {
+    order = [];
+    walked = λ n f. zero-one (cc);
+    wrote = refusal (rw (← e));
+    left = rw (← e);
+  }
+
+  module _ {n : ℕ} (e : got tt n ≡ tableAt t) (l : List ℕ) (w : Walk (t .parents) (within (t .parents)) l) where
+    abbrev bytes : List ℕ
+    bytes = joined (t .parents) (t .ends) (t .names) l
+
+    abbrev places : List ℕ
+    places = endsFrom 0 (t .parents) (t .ends) (t .names) l
+
+    places-long : length places ≡ length l
+    places-long = ends-long (t .parents) (t .ends) (t .names) l 0
+
+    said-paths : length l ≤ length ends → pathsSaid t l (length ends) ≡ says bytes
+    unfolding pathsSaid
+    said-paths h = rw (← e, le-leb (length l) (length ends) h)
+
+    said-no-paths : length ends < length l → pathsSaid t l (length ends) ≡ no (bare 9)
+    unfolding pathsSaid
+    said-no-paths h = rw (← e, lt-leb (length l) (length ends) h)
+
+    said-ends : length bytes ≤ length out → endsSaid t l (length out) ≡ says places
+    unfolding endsSaid
+    said-ends h = rw (← e, le-leb (length bytes) (length out) h)
+
+    said-no-ends : length out < length bytes → endsSaid t l (length out) ≡ no (bare 9)
+    unfolding endsSaid
+    said-no-ends h = rw (← e, lt-leb (length bytes) (length out) h)
+
+    -- too few ends: they are left as they are, whether the bytes have room or not
+    pub all-no-ends : {why : Told} → why ≡ bare 9 → length ends < length l → AllPaths t out ends (refused why) out ends
+    all-no-ends f h = record {
+      order = l;
+      walked = λ n e. w;
+      wrote = refusal (said-no-paths h ∙ ap no (sym f));
+      left = either (leb (length bytes) (length out)) refl;
+    }
+      where
+        either : (b : Bool) → leb (length bytes) (length out) ≡ b → ends ≡ leftOf (endsSaid t l (length out)) ends
+        either true q = no-room {out = ends} (said-ends (leb-true (length bytes) (length out) q)) (omega (arith, places-long)) refl .leaves
+        either false q = refusal (said-no-ends (leb-false (length bytes) (length out) q)) .leaves
+
+    module _ (h : length l ≤ length ends) where
+      pub all-no-room : {why : Told} → why ≡ bare 9 → length out < length bytes → AllPaths t out ends (refused why) out ends
+      all-no-room f k = record {
+        order = l;
+        walked = λ n e. w;
+        wrote = no-room (said-paths h) k f;
+        left = refusal (said-no-ends k) .leaves;
+      }
+
+      pub all-done : {out′ ends′ : List ℕ} {n m : ℕ} → length bytes ≤ length out → Put out 0 bytes out′ n → Put ends 0 places ends′ m → AllPaths t out ends (got tt n) out′ ends′
+      all-done k p q = record {
+        order = l;
+        walked = λ n e. w;
+        wrote = done (said-paths h) k p;
+        left = done (said-ends k) (omega (arith, places-long)) q .leaves;
+      }

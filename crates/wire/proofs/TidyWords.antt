@@ -1,0 +1,216 @@
+-- A description's tidy word, part by part: the writer's word of its reading is made of the tidy words of its values.
+-- Assumes nothing.
+use mathlib.Core.Path.{_≡_, refl, ap, sym, _∙_}
+use mathlib.Core.Bool.{true}
+use mathlib.Core.List.{List, [], _∷_, _++_, append-assoc, append-nil}
+use Prim.Native.Nat.{ℕ, zero, suc, _+_, _-_, _≤_}
+use native.Mathlib.Omega.{arith}
+use lib.ListN.{length, length-append}
+use Rattle.layout.specs.Answer.{Told, Answer, got, refused, after, means, pick}
+use Rattle.layout.specs.Bytes.{Bytes, bytes}
+use Rattle.layout.specs.Codec.{Codec, repeated}
+use Rattle.layout.specs.Grammar.{loose, empty, _then_, lead, as′, Counted}
+use Rattle.layout.specs.Written.{says, no, saidOf, tidied, took, spelling}
+use Rattle.layout.proofs.Make.{num-size}
+use Rattle.layout.proofs.Numbers.{length-bytes}
+use Rattle.layout.proofs.Tidied.{Shrinks, nothing-shrinks, number-shrinks, then-shrinks, as-shrinks, count-shrinks, shrunk, zero-one}
+use borrow.Author.Tests.{ne-eqb}
+use lib.Dec.{eqb}
+use Rattle.wire.specs.declared.property.PropInfo.{PropInfo}
+use Rattle.wire.specs.declared.property.Slot.{Slot}
+use Rattle.wire.specs.declared.property.Form as F
+use Rattle.wire.specs.declared.property.Form.the-variants as code
+use Rattle.wire.specs.Layout.{Val, nil, Shape, one, many, string, undef, shape, Row, Form, Formed, form-byte, FormOf, reading, Fields, Property, Value}
+use Rattle.wire.specs.Codecs.{value, shaped, row, three, listed, formed, form, fields, property}
+use Rattle.wire.specs.Places.{numAt}
+use Rattle.wire.specs.Property.{between, slotAt, valuesAt, rangeAt, listAt, formAt, propertyAt, read-or, slotIn, valuesIn, formIn, propertyIn}
+use Rattle.wire.specs.Tidy.{rowWord, types}
+use Rattle.wire.specs.TidyProperty.{valuesWord, headerWord, rangeWord, listWord, formWord, propertyWord, Taken, WellForm, Well}
+use Rattle.wire.proofs.Described.{row-values, properties}
+use Rattle.wire.proofs.Formats.{row-format, property-format}
+use Rattle.wire.proofs.Values.{shaped-shrinks}
+
+-- ── a value's tidy word, from its place ──
+
+nil-write : (x : Shape) → (shaped x) .write nil ≡ []
+nil-write (one k) = refl
+nil-write (many k) = refl
+nil-write string = refl
+nil-write undef = refl
+
+slot-word : (t : ℕ) (s : List ℕ) (p : Slot) → (value t) .write (slotIn t s p) ≡ valuesWord t 1 s (p .start)
+unfolding means after
+slot-word t s p = go ((value t) .read s (p .start)) ∙ ap spelling (sym (row-values t 1 s (p .start)))
+  where
+    go : (x : Answer Val) → (value t) .write (read-or nil x)
+        ≡ spelling (means ((repeated 1 (value t)) .write) (means (λ (v : Val × List Val). v .0 ∷ v .1) (after x λ a n. means (λ (b : List Val). (a, b)) (got [] n))))
+    go (got v n) = sym (append-nil ((value t) .write v))
+    go (refused u) = nil-write (shape t)
+
+repeated-length : (m : ℕ) (F : Codec Val) (s : List ℕ) (at : ℕ) (vs : List Val) (n : ℕ) → (repeated m F) .read s at ≡ got vs n → length vs ≡ m
+unfolding means after
+repeated-length zero F s at vs n e = let f : [] ≡ vs = cc in ap length (sym f)
+repeated-length (suc m) F s at vs n e = first (F .read s at) (λ q ws k. repeated-length m F s q ws k) e
+  where
+    rest : (v : Val) (x : Answer (List Val)) → ((ws : List Val) (k : ℕ) → x ≡ got ws k → length ws ≡ m) → means (λ (y : Val × List Val). y .0 ∷ y .1) (means (λ b. (v, b)) x) ≡ got vs n → length vs ≡ suc m
+    rest v (got ws k) f e = let g : v ∷ ws ≡ vs = cc in ap length (sym g) ∙ ap suc (f ws k refl)
+    rest v (refused u) f e = zero-one (cc)
+
+    first : (x : Answer Val) → ((q : ℕ) (ws : List Val) (k : ℕ) → (repeated m F) .read s q ≡ got ws k → length ws ≡ m)
+        → means (λ (y : Val × List Val). y .0 ∷ y .1) (after x λ a q. means (λ b. (a, b)) ((repeated m F) .read s q)) ≡ got vs n → length vs ≡ suc m
+    first (got v q) f e = rest v ((repeated m F) .read s q) (f q) e
+    first (refused u) f e = zero-one (cc)
+
+list-word : (t n : ℕ) (s : List ℕ) (p : Slot) → Taken t n s (p .start) → (listed t) .write (valuesIn t s p n) ≡ bytes 2 n ++ valuesWord t n s (p .start)
+unfolding means
+list-word t n s p h = go ((repeated n (value t)) .read s (p .start)) refl (sym (ap took (row-values t n s (p .start))) ∙ h) ∙ ap (λ w. bytes 2 n ++ spelling w) (sym (row-values t n s (p .start)))
+  where
+    go : (x : Answer (List Val)) → (repeated n (value t)) .read s (p .start) ≡ x → took (means ((repeated n (value t)) .write) x) ≡ true
+        → (listed t) .write (read-or [] x) ≡ bytes 2 n ++ spelling (means ((repeated n (value t)) .write) x)
+    go (got vs m) e h = rw (repeated-length n (value t) s (p .start) vs m e)
+    go (refused u) e h = zero-one (cc)
+
+-- ── the form, and the whole ──
+
+form-word : (t : ℕ) (s : List ℕ) (f : F.Form) → WellForm t s f → (form t) .write (formIn t s f) ≡ formWord t s f
+unfolding formWord rangeWord listWord
+form-word t s (code.Range a b c) h = rw (slot-word t s a, slot-word t s b, slot-word t s c) (simp append-assoc)
+form-word t s (code.List p n) h = rw (list-word t n s p h) (simp append-assoc)
+form-word t s code.Absent h = append-nil (bytes 1 0)
+
+pub header-size : (x : PropInfo) → length (headerWord x) ≡ 6
+unfolding headerWord bytes
+header-size x = refl
+
+pub range-size : (t : ℕ) (s : List ℕ) (a b c : ℕ) → length (rangeWord t s a b c) ≡ 1 + length (valuesWord t 1 s a) + length (valuesWord t 1 s b) + length (valuesWord t 1 s c)
+unfolding rangeWord bytes
+range-size t s a b c = simp length-append
+
+pub list-size : (t : ℕ) (s : List ℕ) (at n : ℕ) → length (listWord t s at n) ≡ 3 + length (valuesWord t n s at)
+unfolding listWord bytes
+list-size t s at n = simp length-append
+
+module _ (s : List ℕ) (x : PropInfo) where
+  abbrev pub type : ℕ
+  type = x .«data_type»
+
+  abbrev pub in-parts : List ℕ
+  in-parts = headerWord x ++ valuesWord type 1 s (x .«factory_default» .start) ++ valuesWord type 1 s (x .current .start) ++ formWord type s (x .form)
+
+  pub property-word : Well s x → propertyWord s x ≡ in-parts
+  unfolding propertyWord headerWord
+  property-word h = rw (slot-word type s (x .«factory_default»), slot-word type s (x .current), form-word type s (x .form) (h .form)) (simp append-assoc)
+
+  pub parts-size : length in-parts ≡ 6 + length (valuesWord type 1 s (x .«factory_default» .start)) + length (valuesWord type 1 s (x .current .start)) + length (formWord type s (x .form))
+  parts-size = simp (length-append, header-size x)
+
+-- ── what was read of a description was read ──
+
+pub data Holds {L : Type 0} (P : L → Type 0) : Answer L → Type 0 where
+  holds : (l : L) (n : ℕ) → P l → Holds P (got l n)
+  not-read : {t : Told} → Holds P (refused t)
+
+holds-after : {A B : Type 0} {P : A → Type 0} {Q : B → Type 0} {x : Answer A} (k : A → ℕ → Answer B) → Holds P x → ((a : A) (n : ℕ) → P a → Holds Q (k a n)) → Holds Q (after x k)
+unfolding after
+holds-after k (holds l n h) f = f l n h
+holds-after k not-read f = not-read
+
+anything : {A : Type 0} (x : Answer A) → Holds (λ _. Unit {0}) x
+anything (got a n) = holds a n tt
+anything (refused t) = not-read
+
+values-taken : (t m : ℕ) (s : List ℕ) (at : ℕ) → Holds (λ p. Taken t m s (p .start)) (valuesAt t m s at)
+unfolding valuesAt means after
+values-taken t m s at = go ((repeated m (value t)) .read s at) (ap took (row-values t m s at))
+  where
+    go : (x : Answer (List Val)) → took (rowWord (types (t ∷ []) m) s at) ≡ took (means ((repeated m (value t)) .write) x) → Holds (λ p. Taken t m s (p .start)) (after x λ _ n. got (between at n) n)
+    go (got vs n) e = holds (between at n) n e
+    go (refused u) e = not-read
+
+form-well : (t : ℕ) (s : List ℕ) (at : ℕ) → Holds (WellForm t s) (formAt t s at)
+unfolding formAt rangeAt listAt
+form-well t s at = holds-after _ (anything (numAt 1 s at)) λ b p _. by b p
+  where
+    by : (b p : ℕ) → Holds (WellForm t s) (pick (eqb b 1) (rangeAt t s p) (pick (eqb b 2) (listAt t s p) (got code.Absent p)))
+    by zero p = holds code.Absent p tt
+    by (suc zero) p = holds-after _ (values-taken t 1 s p) λ x a h. holds-after _ (values-taken t 1 s a) λ y b i. holds-after _ (values-taken t 1 s b) λ z n j. holds (code.Range x y z) n (h, i, j)
+    by (suc (suc zero)) p = holds-after _ (anything (numAt 2 s p)) λ n q _. holds-after _ (values-taken t n s q) λ y m h. holds (code.List y n) m h
+    by (suc (suc (suc n))) p = rw (ne-eqb (suc (suc (suc n))) 1 (λ e. omega arith), ne-eqb (suc (suc (suc n))) 2 (λ e. omega arith)) (holds code.Absent p tt)
+
+property-well : (s : List ℕ) (at : ℕ) → Holds (Well s) (propertyAt s at)
+unfolding propertyAt
+property-well s at =
+    holds-after _ (anything (numAt 2 s at)) λ _ a _.
+    holds-after _ (anything (numAt 2 s a)) λ t b _.
+    holds-after _ (anything (numAt 1 s b)) λ _ c _.
+    holds-after _ (anything (numAt 1 s c)) λ _ d _.
+    holds-after _ (values-taken t 1 s d) λ _ e h.
+    holds-after _ (values-taken t 1 s e) λ _ f i.
+    holds-after _ (form-well t s f) λ _ n j.
+    holds _ n (record { default = h; current = i; form = j })
+
+pub well-read : (s : List ℕ) (at : ℕ) (x : PropInfo) (n : ℕ) → got x n ≡ propertyAt s at → Well s x
+well-read s at x n e = go (propertyAt s at) (property-well s at) e
+  where
+    go : (y : Answer PropInfo) → Holds (Well s) y → got x n ≡ y → Well s x
+    go (got z m) (holds l k h) e = let f : x ≡ z = cc in rw f h
+    go (refused u) not-read e = zero-one (cc)
+
+-- what the tidy writer has to say of it
+pub said-property : (s : List ℕ) (x : PropInfo) (n : ℕ) → got x n ≡ propertyAt s 0 → tidied property s ≡ says (propertyWord s x)
+unfolding propertyWord means saidOf
+said-property s x n e = rw (← properties .agrees s 0, ← e)
+
+pub said-no-property : (s : List ℕ) (t : Told) → refused t ≡ propertyAt s 0 → tidied property s ≡ no t
+unfolding means saidOf
+said-no-property s t e = rw (← properties .agrees s 0, ← e)
+
+-- ── tidy rows are no longer than what was read ──
+
+row-shrinks : (ts : List ℕ) → Shrinks (Row ts) (row ts)
+row-shrinks [] = nothing-shrinks []
+row-shrinks (t ∷ ts) = as-shrinks _ _ (then-shrinks (shaped-shrinks (shape t)) λ _. row-shrinks ts) λ a. refl
+
+pub row-bound : (ts s : List ℕ) → Bytes s → (at t n : ℕ) → got t n ≡ means length (rowWord ts s at) → t ≤ length s - at
+unfolding rowWord
+row-bound ts s h at t n e = let k = shrunk (row-format ts) (row-shrinks ts) s h at t n e in omega arith
+
+-- ── and so is a tidy description ──
+
+three-shrinks : (t : ℕ) → Shrinks (Value t then λ _. Value t then λ _. Value t) (three t)
+three-shrinks t = then-shrinks (shaped-shrinks (shape t)) λ _. then-shrinks (shaped-shrinks (shape t)) λ _. shaped-shrinks (shape t)
+
+listed-shrinks : (t : ℕ) → Shrinks (Counted 2 (Value t)) (listed t)
+listed-shrinks t = count-shrinks 2 (shaped-shrinks (shape t))
+
+formed-shrinks : (t n : ℕ) (w : List ℕ) (f : Form) → Formed t n loose w f → length ((formed t (form-byte f)) .write f) ≤ length w
+formed-shrinks t zero w f empty = omega arith
+formed-shrinks t (suc zero) w f (as′ {a} g) = (three-shrinks t) .small w a g
+formed-shrinks t (suc (suc zero)) w f (as′ {a} g) = (listed-shrinks t) .small w a g
+formed-shrinks t (suc (suc (suc n))) w f empty = omega arith
+
+form-shrinks : (t : ℕ) → Shrinks (FormOf t) (form t)
+form-shrinks t = record { small = go }
+  where
+    go : (w : List ℕ) (f : Form) → FormOf t loose w f → length ((form t) .write f) ≤ length w
+    go w f (lead {u} {v} {a} g e h) =
+        omega (arith, length-append u v, length-append (bytes 1 (form-byte f)) ((formed t (form-byte f)) .write f), length-bytes 1 (form-byte f), num-size 1 u a g .0, formed-shrinks t a v f h)
+
+fields-shrinks : Shrinks Fields fields
+fields-shrinks =
+    then-shrinks (number-shrinks 2) λ _.
+    then-shrinks (number-shrinks 2) λ t.
+    then-shrinks (number-shrinks 1) λ _.
+    then-shrinks (number-shrinks 1) λ _.
+    then-shrinks (shaped-shrinks (shape t)) λ _.
+    then-shrinks (shaped-shrinks (shape t)) λ _.
+    form-shrinks t
+
+property-shrinks : Shrinks Property property
+property-shrinks = as-shrinks reading _ fields-shrinks λ a. refl
+
+pub property-bound : (s : List ℕ) → Bytes s → (x : PropInfo) (n : ℕ) → got x n ≡ propertyAt s 0 → length (propertyWord s x) ≤ length s
+unfolding propertyWord means
+property-bound s h x n e =
+    let k = shrunk property-format property-shrinks s h 0 (length (propertyWord s x)) n (rw (← properties .agrees s 0, ← e)) in
+    omega arith

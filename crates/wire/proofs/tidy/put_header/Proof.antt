@@ -1,0 +1,38 @@
+-- `wire::tidy::put_header`: four writes in a row, six bytes in all. Assumes nothing.
+use native.Mathlib.Omega.{arith}
+use lib.ListN.{length-append}
+use Prim.Native.Nat.{ℕ}
+use mathlib.Core.List.{_++_}
+use Rattle.layout.specs.Bytes.{bytes}
+use Rattle.layout.proofs.Writing.{roomy, then-roomy}
+use Rattle.wire.specs.TidyProperty.{headerWord}
+use borrow.Author.Needs.{needs}
+use Rattle.wire.proofs.tidy.put_header.Statement.{statement}
+use Rattle.wire.proofs.tidy.put_header.Tie as tie
+
+returns : tie.Need-returns
+unfolding headerWord bytes
+returns c =
+    let p = c .before .before .before .before .before .before .before .before .before .before .before .before .before .before .before .before .before .before .before .before .before .args .p in
+    then-roomy (bytes 1 (p .«is_enable»))
+    (then-roomy (bytes 1 (p .«get_set»))
+    (then-roomy (bytes 2 (p .«data_type»))
+    (roomy (bytes 2 (p .«property_code»)) (c .before .before .before .before .before .before .before .before .before .before .before .before .before .before .before .before .before .store .ensures) (omega (arith, c .before .before .before .before .before .before .before .before .before .before .before .before .before .before .before .before .before .before .before .before .before .pre)))
+    (c .before .before .before .before .before .before .before .before .before .before .before .before .store2 .ensures) (omega (arith, c .before .before .before .before .before .before .before .before .before .before .before .before .before .before .before .before .before .before .before .before .before .pre)))
+    (c .before .before .before .before .before .before .before .store3 .ensures) (omega (arith, c .before .before .before .before .before .before .before .before .before .before .before .before .before .before .before .before .before .before .before .before .before .pre)))
+    (c .before .before .store4 .ensures) (omega (arith, c .before .before .before .before .before .before .before .before .before .before .before .before .before .before .before .before .before .before .before .before .before .pre))
+
+pub put-header-spec : {M : Type 1} → statement M
+put-header-spec =
+    tie.close
+    (tie.spec
+    (λ c. search needs)
+    (λ c κs. search needs)
+    (λ c. search needs)
+    (λ c κs. search needs)
+    (λ c. search needs)
+    (λ c κs. search needs)
+    (λ c. search needs)
+    (λ c κs. search needs)
+    (λ c. search needs)
+    returns)
