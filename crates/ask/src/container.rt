@@ -9,17 +9,15 @@ use wire::Header;
 use wire::ReadContainer;
 use wire::ReadHeader;
 
-// KIND CODE NUMBER.
-fn leading(text: &mut [u8], at: usize, kind: u16, code: u16, number: u32) -> usize {
-    let a = print::ok(text, at);
-    let b = print::word(text, a, kind as u64);
-    let c = print::word(text, b, code as u64);
-    print::word(text, c, number as u64)
-}
-
 fn header_words(text: &mut [u8], at: usize, h: Header) -> usize {
-    let o = leading(text, at, h.kind, h.code, h.number);
-    print::word(text, o, h.payload_len as u64)
+    let words = [
+        h.kind as u64,
+        h.code as u64,
+        h.number as u64,
+        h.payload_len as u64,
+    ];
+    let o = print::ok(text, at);
+    print::numbers(text, o, &words)
 }
 
 fn header(line: &mut [u8], rest: Rest, text: &mut [u8], at: usize) -> usize {
@@ -36,9 +34,15 @@ fn header(line: &mut [u8], rest: Rest, text: &mut [u8], at: usize) -> usize {
 
 fn container_words(text: &mut [u8], at: usize, c: Container) -> usize {
     let payload = c.payload;
-    let o = leading(text, at, c.kind, c.code, c.number);
-    let a = print::place(text, o, payload.start);
-    print::place(text, a, payload.count)
+    let words = [
+        c.kind as u64,
+        c.code as u64,
+        c.number as u64,
+        payload.start as u64,
+        payload.count as u64,
+    ];
+    let o = print::ok(text, at);
+    print::numbers(text, o, &words)
 }
 
 fn container(line: &mut [u8], rest: Rest, text: &mut [u8], at: usize) -> usize {

@@ -8,11 +8,17 @@ use wire::ReadI8;
 use wire::ReadI16;
 use wire::ReadI32;
 use wire::ReadI64;
+use wire::ReadU8;
+use wire::ReadU16;
+use wire::ReadU32;
+use wire::ReadU64;
 
 pub enum Given {
     Is(Integer),
     Wrong,
 }
+
+const MOST: u64 = 0xFFFF_FFFF_FFFF_FFFF;
 
 // The 64 bits of a signed number from -half to half - 1.
 fn signed(w: &[u8], half: u64) -> Parsed {
@@ -28,157 +34,115 @@ fn signed(w: &[u8], half: u64) -> Parsed {
     words::number(w, std::num::wrapping_sub_u64(half, 1))
 }
 
-// The bytes of 64 bits, of which the low ones are a narrower number's.
-fn eight(n: u64) -> [u8; 8] {
+// The bits of a number of a type of at most 64 bits.
+fn bits(code: u16, w: &[u8]) -> Parsed {
+    match code {
+        1 => signed(w, 0x80),
+        2 => words::number(w, 0xFF),
+        3 => signed(w, 0x8000),
+        4 => words::number(w, 0xFFFF),
+        5 => signed(w, 0x8000_0000),
+        6 => words::number(w, 0xFFFF_FFFF),
+        7 => signed(w, 0x8000_0000_0000_0000),
+        _ => words::number(w, MOST),
+    }
+}
+
+fn signed_of(code: u16, b: &[u8]) -> Given {
+    let c = Cursor { at: 0 };
+    if code == 1 {
+        if let ReadI8::Got(v, _) = c.i8(b) {
+            return Given::Is(Integer::I8(v));
+        }
+    }
+    if code == 3 {
+        if let ReadI16::Got(v, _) = c.i16(b) {
+            return Given::Is(Integer::I16(v));
+        }
+    }
+    if code == 5 {
+        if let ReadI32::Got(v, _) = c.i32(b) {
+            return Given::Is(Integer::I32(v));
+        }
+    }
+    if let ReadI64::Got(v, _) = c.i64(b) {
+        return Given::Is(Integer::I64(v));
+    }
+    Given::Wrong
+}
+
+fn unsigned_of(code: u16, b: &[u8]) -> Given {
+    let c = Cursor { at: 0 };
+    if code == 2 {
+        if let ReadU8::Got(v, _) = c.u8(b) {
+            return Given::Is(Integer::U8(v));
+        }
+    }
+    if code == 4 {
+        if let ReadU16::Got(v, _) = c.u16(b) {
+            return Given::Is(Integer::U16(v));
+        }
+    }
+    if code == 6 {
+        if let ReadU32::Got(v, _) = c.u32(b) {
+            return Given::Is(Integer::U32(v));
+        }
+    }
+    if let ReadU64::Got(v, _) = c.u64(b) {
+        return Given::Is(Integer::U64(v));
+    }
+    Given::Wrong
+}
+
+// Types of at most 64 bits: the low bytes of the bits, read as the type.
+fn narrow_of(code: u16, w: &[u8]) -> Given {
+    let n = bits(code, w);
+    if !n.ok {
+        return Given::Wrong;
+    }
     let mut b = [0u8; 8];
-    layout::store(&mut b, 0, 8, n);
-    b
-}
-
-fn i8_of(w: &[u8]) -> Given {
-    let n = signed(w, 0x80);
-    if !n.ok {
-        return Given::Wrong;
+    layout::store(&mut b, 0, 8, n.v);
+    if code % 2 == 1 {
+        return signed_of(code, &b);
     }
-    let b = eight(n.v);
-    match (Cursor { at: 0 }).i8(&b) {
-        ReadI8::Got(v, _) => Given::Is(Integer::I8(v)),
-        ReadI8::Refused(_) => Given::Wrong,
-    }
-}
-
-fn i16_of(w: &[u8]) -> Given {
-    let n = signed(w, 0x8000);
-    if !n.ok {
-        return Given::Wrong;
-    }
-    let b = eight(n.v);
-    match (Cursor { at: 0 }).i16(&b) {
-        ReadI16::Got(v, _) => Given::Is(Integer::I16(v)),
-        ReadI16::Refused(_) => Given::Wrong,
-    }
-}
-
-fn i32_of(w: &[u8]) -> Given {
-    let n = signed(w, 0x8000_0000);
-    if !n.ok {
-        return Given::Wrong;
-    }
-    let b = eight(n.v);
-    match (Cursor { at: 0 }).i32(&b) {
-        ReadI32::Got(v, _) => Given::Is(Integer::I32(v)),
-        ReadI32::Refused(_) => Given::Wrong,
-    }
-}
-
-fn i64_of(w: &[u8]) -> Given {
-    let n = signed(w, 0x8000_0000_0000_0000);
-    if !n.ok {
-        return Given::Wrong;
-    }
-    let b = eight(n.v);
-    match (Cursor { at: 0 }).i64(&b) {
-        ReadI64::Got(v, _) => Given::Is(Integer::I64(v)),
-        ReadI64::Refused(_) => Given::Wrong,
-    }
-}
-
-fn u8_of(w: &[u8]) -> Given {
-    let n = words::number(w, 0xFF);
-    if !n.ok {
-        return Given::Wrong;
-    }
-    Given::Is(Integer::U8(n.v as u8))
-}
-
-fn u16_of(w: &[u8]) -> Given {
-    let n = words::number(w, 0xFFFF);
-    if !n.ok {
-        return Given::Wrong;
-    }
-    Given::Is(Integer::U16(n.v as u16))
-}
-
-fn u32_of(w: &[u8]) -> Given {
-    let n = words::number(w, 0xFFFF_FFFF);
-    if !n.ok {
-        return Given::Wrong;
-    }
-    Given::Is(Integer::U32(n.v as u32))
-}
-
-fn u64_of(w: &[u8]) -> Given {
-    let n = words::number(w, 0xFFFF_FFFF_FFFF_FFFF);
-    if !n.ok {
-        return Given::Wrong;
-    }
-    Given::Is(Integer::U64(n.v))
-}
-
-struct Halves {
-    pair: Pair,
-    ok: bool,
+    unsigned_of(code, &b)
 }
 
 // HIGH:LOW.
-fn two_of(w: &[u8]) -> Halves {
+fn wide_of(code: u16, w: &[u8]) -> Given {
     let colon = words::find(w, 0, b':');
-    let high = words::number(words::part(w, 0, colon), 0xFFFF_FFFF_FFFF_FFFF);
-    let low = words::number(words::from(w, colon, 1), 0xFFFF_FFFF_FFFF_FFFF);
+    let high = words::number(words::part(w, 0, colon), MOST);
+    let low = words::number(words::from(w, colon, 1), MOST);
+    if !high.ok {
+        return Given::Wrong;
+    }
+    if !low.ok {
+        return Given::Wrong;
+    }
     let pair = Pair {
         high: high.v,
         low: low.v,
     };
-    if !high.ok {
-        return Halves { pair, ok: false };
-    }
-    Halves { pair, ok: low.ok }
-}
-
-fn i128_of(w: &[u8]) -> Given {
-    let h = two_of(w);
-    let pair = h.pair;
-    if h.ok {
+    if code == 9 {
         return Given::Is(Integer::I128(pair));
     }
-    Given::Wrong
+    Given::Is(Integer::U128(pair))
 }
 
-fn u128_of(w: &[u8]) -> Given {
-    let h = two_of(w);
-    let pair = h.pair;
-    if h.ok {
-        return Given::Is(Integer::U128(pair));
+fn undef_of(w: &[u8]) -> Given {
+    if words::same(w, b"undef") {
+        return Given::Is(Integer::Undef);
     }
     Given::Wrong
 }
 
-// Every code that is no integer's; an array's and a string's have no VALUE.
-fn undef_of(code: u16, w: &[u8]) -> Given {
-    match code {
-        0x4001..=0x400A => Given::Wrong,
-        0xFFFF => Given::Wrong,
-        _ => {
-            if words::same(w, b"undef") {
-                return Given::Is(Integer::Undef);
-            }
-            Given::Wrong
-        }
-    }
-}
-
+// An array's type and a string's have no VALUE here.
 pub fn integer_of(code: u16, w: &[u8]) -> Given {
     match code {
-        1 => i8_of(w),
-        2 => u8_of(w),
-        3 => i16_of(w),
-        4 => u16_of(w),
-        5 => i32_of(w),
-        6 => u32_of(w),
-        7 => i64_of(w),
-        8 => u64_of(w),
-        9 => i128_of(w),
-        10 => u128_of(w),
-        _ => undef_of(code, w),
+        1..=8 => narrow_of(code, w),
+        9..=10 => wide_of(code, w),
+        0x4001..=0x400A => Given::Wrong,
+        0xFFFF => Given::Wrong,
+        _ => undef_of(w),
     }
 }

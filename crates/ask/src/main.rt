@@ -1,14 +1,18 @@
 // Answers questions, one a line, from standard input (docs/ASK.md). All buffers are made once and lent.
 mod container;
+mod dataset;
+mod fields;
 mod input;
 mod integer;
 mod name;
 mod print;
 mod show;
+mod table;
 mod value;
 mod words;
 
 use input::Held;
+use words::Rest;
 
 // The place after an answer, or that another module has the question.
 enum Said {
@@ -31,21 +35,48 @@ fn list16() -> [u16; 4096] {
     [0u16; 4096]
 }
 
-fn answer(
+// For two lists of the most numbers that one may have.
+fn list32() -> [u32; 8192] {
+    [0u32; 8192]
+}
+
+fn answer_values(
     line: &mut [u8],
+    rest: Rest,
     out: &mut [u8],
     halves: &mut [u16],
     text: &mut [u8],
     at: usize,
+) -> Said {
+    if let Said::At(o) = name::answer(line, rest, text, at) {
+        return Said::At(o);
+    }
+    value::answer(line, rest, out, halves, text, at)
+}
+
+fn answer_records(line: &mut [u8], rest: Rest, out: &mut [u8], text: &mut [u8], at: usize) -> Said {
+    if let Said::At(o) = dataset::answer(line, rest, out, text, at) {
+        return Said::At(o);
+    }
+    container::answer(line, rest, out, text, at)
+}
+
+fn answer(
+    line: &mut [u8],
+    out: &mut [u8],
+    halves: &mut [u16],
+    numbers: &mut [u32],
+    text: &mut [u8],
+    at: usize,
 ) -> usize {
     let rest = words::first(line);
-    if let Said::At(o) = name::answer(line, rest, text, at) {
+    if let Said::At(o) = answer_values(line, rest, out, halves, text, at) {
         return o;
     }
-    if let Said::At(o) = value::answer(line, rest, out, halves, text, at) {
+    if let Said::At(o) = answer_records(line, rest, out, text, at) {
         return o;
     }
-    if let Said::At(o) = container::answer(line, rest, out, text, at) {
+    if let Said::At(o) = table::answer(line, rest, out, halves, numbers, text, at) {
         return o;
     }
     print::unknown(text, at)
@@ -57,6 +88,7 @@ fn answer_line(
     is_long: bool,
     out: &mut [u8],
     halves: &mut [u16],
+    numbers: &mut [u32],
     text: &mut [u8],
     at: usize,
 ) -> usize {
@@ -64,7 +96,7 @@ fn answer_line(
         let o = print::unknown(text, at);
         return print::put(text, o, b'\n');
     }
-    let o = answer(line, out, halves, text, at);
+    let o = answer(line, out, halves, numbers, text, at);
     print::put(text, o, b'\n')
 }
 
@@ -75,6 +107,7 @@ fn answer_lines(
     end: usize,
     out: &mut [u8],
     halves: &mut [u16],
+    numbers: &mut [u32],
     text: &mut [u8],
 ) -> Done {
     let mut start: usize = 0;
@@ -91,6 +124,7 @@ fn answer_lines(
             is_long,
             out,
             halves,
+            numbers,
             text,
             at,
         );
@@ -102,7 +136,14 @@ fn answer_lines(
 }
 
 // The last line, which has no end, if there is one.
-fn answer_last(lines: &mut [u8], held: Held, out: &mut [u8], halves: &mut [u16], text: &mut [u8]) {
+fn answer_last(
+    lines: &mut [u8],
+    held: Held,
+    out: &mut [u8],
+    halves: &mut [u16],
+    numbers: &mut [u32],
+    text: &mut [u8],
+) {
     let end = held.end;
     let is_long = held.is_long;
     if is_long || 0 < end {
@@ -111,6 +152,7 @@ fn answer_last(lines: &mut [u8], held: Held, out: &mut [u8], halves: &mut [u16],
             is_long,
             out,
             halves,
+            numbers,
             text,
             0,
         );
@@ -124,14 +166,15 @@ fn answer_block(
     end: usize,
     out: &mut [u8],
     halves: &mut [u16],
+    numbers: &mut [u32],
     text: &mut [u8],
 ) -> Held {
-    let done = answer_lines(lines, held, end, out, halves, text);
+    let done = answer_lines(lines, held, end, out, halves, numbers, text);
     print::flush(text, done.at);
     input::keep(lines, done.start, end, done.is_long)
 }
 
-fn run(lines: &mut [u8], out: &mut [u8], halves: &mut [u16], text: &mut [u8]) {
+fn run(lines: &mut [u8], out: &mut [u8], halves: &mut [u16], numbers: &mut [u32], text: &mut [u8]) {
     let mut held = Held {
         end: 0,
         is_long: false,
@@ -141,10 +184,10 @@ fn run(lines: &mut [u8], out: &mut [u8], halves: &mut [u16], text: &mut [u8]) {
     while turns > 0 {
         let end = input::more(lines, held.end);
         if end == held.end {
-            answer_last(lines, held, out, halves, text);
+            answer_last(lines, held, out, halves, numbers, text);
             return;
         }
-        held = answer_block(lines, held, end, out, halves, text);
+        held = answer_block(lines, held, end, out, halves, numbers, text);
         turns -= 1;
     }
 }
@@ -153,6 +196,7 @@ fn main() {
     let mut lines = input::room();
     let mut out = out_room();
     let mut halves = list16();
+    let mut numbers = list32();
     let mut text = io::large_buffer();
-    run(&mut lines, &mut out, &mut halves, &mut text);
+    run(&mut lines, &mut out, &mut halves, &mut numbers, &mut text);
 }

@@ -69,6 +69,16 @@ pub fn word(text: &mut [u8], at: usize, n: u64) -> usize {
     decimal(text, o, n)
 }
 
+pub fn numbers(text: &mut [u8], at: usize, ns: &[u64]) -> usize {
+    let mut o = at;
+    let mut i: usize = 0;
+    while i < ns.len() {
+        o = word(text, o, ns[i]);
+        i += 1;
+    }
+    o
+}
+
 pub fn place(text: &mut [u8], at: usize, n: usize) -> usize {
     word(text, at, n as u64)
 }
@@ -79,6 +89,35 @@ pub fn between(text: &mut [u8], at: usize, i: usize, b: u8) -> usize {
         return at;
     }
     put(text, at, b)
+}
+
+// Joined by commas, `-` for none.
+pub fn list16(text: &mut [u8], at: usize, list: &[u16]) -> usize {
+    if list.len() == 0 {
+        return put(text, at, b'-');
+    }
+    let mut o = at;
+    let mut i: usize = 0;
+    while i < list.len() {
+        o = between(text, o, i, b',');
+        o = decimal(text, o, wide16(list[i]));
+        i += 1;
+    }
+    o
+}
+
+pub fn list32(text: &mut [u8], at: usize, list: &[u32]) -> usize {
+    if list.len() == 0 {
+        return put(text, at, b'-');
+    }
+    let mut o = at;
+    let mut i: usize = 0;
+    while i < list.len() {
+        o = between(text, o, i, b',');
+        o = decimal(text, o, wide32(list[i]));
+        i += 1;
+    }
+    o
 }
 
 pub fn ok(text: &mut [u8], at: usize) -> usize {
@@ -93,13 +132,21 @@ pub fn unknown(text: &mut [u8], at: usize) -> usize {
     put(text, at, b'?')
 }
 
-fn wide(x: u8) -> u64 {
+fn wide8(x: u8) -> u64 {
+    x as u64
+}
+
+pub fn wide16(x: u16) -> u64 {
+    x as u64
+}
+
+pub fn wide32(x: u32) -> u64 {
     x as u64
 }
 
 pub fn refused(text: &mut [u8], at: usize, number: u8) -> usize {
     let o = put_all(text, at, b"no");
-    word(text, o, wide(number))
+    word(text, o, wide8(number))
 }
 
 // The output for a writer, of so many bytes, filled.

@@ -47,7 +47,7 @@ fn item_code(code: u16) -> u16 {
     code - 0x4000
 }
 
-fn items(text: &mut [u8], at: usize, src: &[u8], code: u16, p: Part) -> usize {
+pub fn items(text: &mut [u8], at: usize, src: &[u8], code: u16, p: Part) -> usize {
     let kind = item_code(code);
     let count = p.count;
     let mut place = p.start;

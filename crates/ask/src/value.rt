@@ -42,10 +42,6 @@ fn end(line: &mut [u8], rest: Rest, text: &mut [u8], at: usize) -> usize {
     }
 }
 
-fn wide(u: u16) -> u64 {
-    u as u64
-}
-
 fn unit(line: &mut [u8], rest: Rest, text: &mut [u8], at: usize) -> usize {
     let n = rest.u64(line);
     let place = n.rest.u64(line);
@@ -57,7 +53,7 @@ fn unit(line: &mut [u8], rest: Rest, text: &mut [u8], at: usize) -> usize {
     match (Cursor { at: place.v }).unit(src, n.v) {
         ReadU16::Got(u, _) => {
             let o = print::ok(text, at);
-            print::word(text, o, wide(u))
+            print::word(text, o, print::wide16(u))
         }
         ReadU16::Refused(f) => print::refused(text, at, f.no),
     }
@@ -125,7 +121,7 @@ fn write_string(
         return print::unknown(text, at);
     }
     let page = print::page(out, size.v);
-    let w = wire::write_text(words::first16(list, units.count), page);
+    let w = wire::write_text(words::part16(list, units.count), page);
     print::written(text, at, w, page)
 }
 

@@ -50,6 +50,9 @@ pub struct Count {
     pub ok: bool,
 }
 
+// The most numbers of a list.
+pub const MOST_NUMBERS: usize = 4096;
+
 const MOST_ROOM: u64 = 1048576;
 
 // The bytes from a place to another; none where there are no such.
@@ -90,11 +93,29 @@ pub fn from(s: &[u8], start: usize, skipped: usize) -> &[u8] {
     &s[..0]
 }
 
-pub fn first16(list: &[u16], count: usize) -> &[u16] {
+pub fn part16(list: &[u16], count: usize) -> &[u16] {
     if count <= list.len() {
         return &list[0..count];
     }
     &list[..0]
+}
+
+pub fn part32(list: &[u32], start: usize, count: usize) -> &[u32] {
+    if start <= list.len() {
+        if count <= list.len() - start {
+            return &list[start..start + count];
+        }
+    }
+    &list[..0]
+}
+
+pub fn part32_mut(list: &mut [u32], start: usize, count: usize) -> &mut [u32] {
+    if start <= list.len() {
+        if count <= list.len() - start {
+            return &mut list[start..start + count];
+        }
+    }
+    &mut list[..0]
 }
 
 // The place of a byte from a place on, or of the end.
@@ -428,12 +449,16 @@ impl Rest {
         }
     }
 
-    pub fn u32s(self, line: &[u8], list: &mut [u32]) -> Many {
+    // Into the part of a list that begins at a place and has room for the most numbers.
+    pub fn u32s(self, line: &[u8], list: &mut [u32], from: usize) -> Many {
         let w = self.word(line);
-        let n = list32(part(line, w.start, w.end), list);
+        let n = list32(
+            part(line, w.start, w.end),
+            part32_mut(list, from, MOST_NUMBERS),
+        );
         let rest = w.rest.and(n.ok);
         Many {
-            start: 0,
+            start: from,
             count: n.n,
             rest,
         }

@@ -7,10 +7,10 @@ use Rattle.ask.proofs.answer_lines.Statement.{statement}
 use Rattle.ask.proofs.answer_lines.Tie as tie
 
 abbrev Inv-loop : tie.InvT-loop
-Inv-loop lines₀ end out₀ halves₀ text₀ start₀ seen₀ is-long₀ at₀ lines out halves text start seen is-long at = (length lines ≡ length lines₀) × (length out ≡ length out₀) × (length halves ≡ length halves₀) × (length text ≡ length text₀)
+Inv-loop lines₀ end out₀ halves₀ numbers₀ text₀ start₀ seen₀ is-long₀ at₀ lines out halves numbers text start seen is-long at = (length lines ≡ length lines₀) × (length out ≡ length out₀) × (length halves ≡ length halves₀) × (length numbers ≡ length numbers₀) × (length text ≡ length text₀)
 
 abbrev μ-loop : tie.MeasureT-loop
-μ-loop lines₀ end out₀ halves₀ text₀ start₀ seen₀ is-long₀ at₀ lines out halves text start seen is-long at = end - seen
+μ-loop lines₀ end out₀ halves₀ numbers₀ text₀ start₀ seen₀ is-long₀ at₀ lines out halves numbers text start seen is-long at = end - seen
 
 pub answer-lines-spec : {M : Type 1} → statement M
 answer-lines-spec =
@@ -26,8 +26,10 @@ answer-lines-spec =
     (λ c. search needs)
     (λ c. search needs)
     (λ c. search needs)
+    (λ c. search needs)
     (λ c κs. search needs)
     (λ c κs. search needs)
+    (λ c. search needs)
     (λ c. search needs)
     (λ c. search needs)
     (λ c. search needs)
