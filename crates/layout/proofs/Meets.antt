@@ -1,19 +1,21 @@
 -- Every format meets the demand; and what a promise comes to, of a reader of places.
 -- Assumes nothing.
 use mathlib.Core.Path.{_≡_, ap, sym, _∙_, subst}
-use mathlib.Core.List.{List}
+use mathlib.Core.Logic.{_↔_}
+use mathlib.Core.List.{List, _++_}
 use Prim.Native.Nat.{ℕ, _≤_}
 use native.Mathlib.Omega.{arith}
-use lib.ListN.{length, take}
+use lib.ListN.{length, take, drop}
 use Rattle.layout.specs.Answer.{Answer, got, refused, Reader, after, means}
 use Rattle.layout.specs.Bytes.{Bytes}
 use Rattle.layout.specs.Codec.{Codec}
 use Rattle.layout.specs.Grammar.{tidy, Grammar}
-use Rattle.layout.specs.Written.{saidOf, tidied}
+use Rattle.layout.specs.Written.{saidOf, tidied, Wrote}
 use Rattle.layout.specs.Format.{Sound, word, Format}
 use Rattle.layout.specs.Faithful.{Prefix, Faithful, Exact, Tidies}
 use Rattle.layout.specs.Placed.{Inside, Lies, lies, nowhere, Placed}
 use Rattle.layout.proofs.Words.{fits, part-there}
+use Rattle.layout.proofs.Writing.{wrote-so}
 
 -- ── every format is faithful ──
 
@@ -74,11 +76,27 @@ unfolding after
 lies-after k (lies l n h i) f = f l n h i
 lies-after k nowhere f = nowhere
 
--- what a promise comes to: any answer x that it allows of the first place is exact, and so is what the tidy writer has to say
+-- ── what promises come to ──
+
+-- of a reader of places, and of the tidy writer beside it: any answer x that the one promise allows of the first place, and any answer and output that the other does
 module _ {R L : Type 0} {G : Grammar R} {F : Codec R} (f : Format G F) {mean : List ℕ → L → R} {parts : L → List (ℕ × ℕ)} {place : Reader L} (P : Placed mean parts place (F .read))
     (s : List ℕ) (h : Bytes s) (x : Answer L) (promised : x ≡ place s 0) where
+  -- accepted exactly when some prefix is in the grammar, with its reading and length
   pub reads-exactly : Exact G (mean s) s x
   reads-exactly = exact f (mean s) s h x (ap (means (mean s)) promised ∙ P .agrees s 0)
 
+  -- every part lies inside
+  pub parts-inside : Lies parts 0 x
+  parts-inside = subst (Lies parts 0) (sym promised) (P .inside s 0)
+
+  -- what the tidy writer has to say is the one tidy word of that reading
   pub tidies-exactly : Tidies G (mean s) (F .write) s x (tidied F s)
   tidies-exactly = tidies f (mean s) s h x (ap (means (mean s)) promised ∙ P .agrees s 0)
+
+  -- with room enough it is written at the front, and nothing else is changed; it is what was read exactly when that was tidy
+  module _ (old new : List ℕ) (answer : Answer (Unit {0})) (wrote : Wrote (tidied F s) old answer new) (l : L) (n : ℕ) (read : x ≡ got l n) where
+    pub writes-exactly : length (F .write (mean s l)) ≤ length old → (answer ≡ got tt (length (F .write (mean s l)))) × (new ≡ F .write (mean s l) ++ drop (length (F .write (mean s l))) old)
+    writes-exactly room = wrote-so (tidies-exactly .owes l n read) room wrote
+
+    pub gives-back : F .write (mean s l) ≡ take n s ↔ G tidy (take n s) (mean s l)
+    gives-back = tidies-exactly .gives-back l n read

@@ -6,4 +6,3 @@ pub mod Format
 pub mod Written
 pub mod Faithful
 pub mod Placed
-pub mod Rows

@@ -5,6 +5,7 @@ ghost use Rattle.layout.specs.Answer.{endAt, badText, bare};
 mod write;
 
 pub use write::copy;
+pub use write::least;
 pub use write::store;
 
 pub struct Refusal {

@@ -14,7 +14,7 @@ fn left(size: usize, at: usize) -> usize
     if at < size { size - at } else { 0 }
 }
 
-fn least(x: usize, y: usize) -> usize
+pub fn least(x: usize, y: usize) -> usize
     ensures { λ r. ⌜ r ≡ pick (leb x y) x y ⌝ }
 {
     if x <= y { x } else { y }

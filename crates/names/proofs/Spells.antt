@@ -80,3 +80,16 @@ unfolding commandPlace commands
 command-within code =
     entered 0x1000 (length commands) code (λ e. Within (given (placeAt (length (joined responses)) commands) e)) tt
     λ k h. let r = command-ruled k h in rw (r .start, r .size) at (r .inside)
+
+-- a name has at most 37 bytes
+abbrev pub Short : Option (List ℕ) → Type 0
+Short none = Unit {0}
+Short (some bs) = length bs ≤ 37
+
+pub response-short : (code : ℕ) → Short (responseName code)
+unfolding responseName responses
+response-short code = entered 0x2000 (length responses) code (λ e. Short (given (nameAt responses) e)) tt λ k h. let r = response-ruled k h in rw (r .size) at (r .short)
+
+pub command-short : (code : ℕ) → Short (commandName code)
+unfolding commandName commands
+command-short code = entered 0x1000 (length commands) code (λ e. Short (given (nameAt commands) e)) tt λ k h. let r = command-ruled k h in rw (r .size) at (r .short)

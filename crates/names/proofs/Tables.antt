@@ -62,22 +62,28 @@ pub record Ruled (first : ℕ) (names : List String) (starts sizes : List ℕ) (
   pub start : getD starts k 0 ≡ placeAt first names k .0
   pub size : getD sizes k 0 ≡ placeAt first names k .1
   pub inside : getD starts k 0 + getD sizes k 0 ≤ length nameBytes
+  pub short : getD sizes k 0 ≤ 37
 
 ruled? : ℕ → List String → List ℕ → List ℕ → ℕ → Bool
 ruled? first names starts sizes k =
     both (eqb (getD starts k 0) (placeAt first names k .0))
-    (both (eqb (getD sizes k 0) (placeAt first names k .1)) (leb (getD starts k 0 + getD sizes k 0) (length nameBytes)))
+    (both (eqb (getD sizes k 0) (placeAt first names k .1)) (both (leb (getD starts k 0 + getD sizes k 0) (length nameBytes)) (leb (getD sizes k 0) 37)))
+
+all-four : (a b c d : Bool) → T (both a (both b (both c d))) → T a × T b × T c × T d
+all-four a b c d t =
+    let u = both-right a (both b (both c d)) t in
+    let v = both-right b (both c d) u in
+    (both-left a (both b (both c d)) t, both-left b (both c d) u, both-left c d v, both-right c d v)
 
 -- tested, an entry keeps the rule
 kept : (first : ℕ) (names : List String) (starts sizes : List ℕ) (k : ℕ) → T (ruled? first names starts sizes k) → Ruled first names starts sizes k
 unfolding ruled?
 kept first names starts sizes k t =
-    let a = both-right (eqb (getD starts k 0) (placeAt first names k .0)) (both (eqb (getD sizes k 0) (placeAt first names k .1)) (leb (getD starts k 0 + getD sizes k 0) (length nameBytes))) t in
-    record {
-      start = eqb→eq (getD starts k 0) (placeAt first names k .0) (both-left (eqb (getD starts k 0) (placeAt first names k .0)) (both (eqb (getD sizes k 0) (placeAt first names k .1)) (leb (getD starts k 0 + getD sizes k 0) (length nameBytes))) t);
-      size = eqb→eq (getD sizes k 0) (placeAt first names k .1) (both-left (eqb (getD sizes k 0) (placeAt first names k .1)) (leb (getD starts k 0 + getD sizes k 0) (length nameBytes)) a);
-      inside = leb→le (getD starts k 0 + getD sizes k 0) (length nameBytes) (both-right (eqb (getD sizes k 0) (placeAt first names k .1)) (leb (getD starts k 0 + getD sizes k 0) (length nameBytes)) a);
-    }
+    let start = getD starts k 0 in
+    let size = getD sizes k 0 in
+    let p = placeAt first names k in
+    let f = all-four (eqb start (p .0)) (eqb size (p .1)) (leb (start + size) (length nameBytes)) (leb size 37) t in
+    record { start = eqb→eq start (p .0) (f .0); size = eqb→eq size (p .1) (f .1); inside = leb→le (start + size) (length nameBytes) (f .2); short = leb→le size 37 (f .3) }
 
 pub placed : {first : ℕ} {names : List String} {starts sizes : List ℕ} {k : ℕ} → Ruled first names starts sizes k → _≡_ {A = ℕ × ℕ} (getD starts k 0, getD sizes k 0) (placeAt first names k)
 placed r = rw (r .start, r .size)

@@ -8,4 +8,3 @@ pub mod Routes
 pub mod Trails
 pub mod Unique
 pub mod Tested
-pub mod Examples

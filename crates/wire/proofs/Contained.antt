@@ -1,24 +1,22 @@
 -- Laws of containers: what each of their tests answers, and the bytes of parameters one by one.
 -- Assumes nothing.
-use mathlib.Core.Path.{_≡_, refl, _∙_}
+use mathlib.Core.Path.{_≡_, refl}
 use mathlib.Core.Bool.{true, false}
 use mathlib.Core.List.{List, _++_}
-use Prim.Native.Nat.{ℕ, zero, suc, _+_, _-_, _*_, _≤_, _<_}
+use Prim.Native.Nat.{ℕ, zero, suc, _+_, _-_, _*_, _^_, _≤_, _<_}
 use native.Mathlib.Omega.{arith}
-use native.Mathlib.Nat.{zero-add}
 use native.Mathlib.Numerals.{add-one}
 use borrow.Author.Tests.{le-leb, lt-leb, leb-true}
 use lib.Dec.{leb}
-use lib.ListN.{length, take, drop, getD, length-append}
-use lib.Seq.{take-length, take-append-seam}
-use Rattle.layout.specs.Answer.{Answer, Told, got, refused, bare, spanAt}
-use Rattle.layout.specs.Bytes.{bytes, number}
+use lib.ListN.{length, take, drop, getD, length-append, length-drop}
+use lib.Seq.{length-take-le, take-length}
+use Rattle.layout.specs.Answer.{Answer, Told, got, refused, bare, after, spanAt, fieldAt}
+use Rattle.layout.specs.Bytes.{Bytes, bytes, number}
 use Rattle.layout.specs.Written.{says, no, Put, roomed}
 use Rattle.layout.proofs.Accepted.{Accepts, accepts-after, accepts-pick, accepts-field}
 use Rattle.layout.proofs.Make.{Spanned, there, short, spanned}
-use Rattle.layout.proofs.Numbers.{length-bytes}
+use Rattle.layout.proofs.Numbers.{length-bytes, number-lt, Bytes-take, Bytes-drop}
 use Rattle.layout.proofs.Tidied.{zero-one}
-use Rattle.layout.proofs.Writing.{put-front}
 use Rattle.layout.proofs.Stored.{first, more}
 use Rattle.wire.specs.Container.{isKind, headerRest, headerAt, containerAt, containerWord, containerSaid, paramBytes, commandSaid}
 use Rattle.wire.specs.Places.{numAt}
@@ -89,12 +87,6 @@ pub said-command : (c : Command) (number : ℕ) → c .count ≤ 5 → commandSa
 unfolding commandSaid
 said-command c number h = rw (le-leb (c .count) 5 h)
 
--- what was put at the front stands there
-pub put-whole : {old bs new : List ℕ} {n : ℕ} → Put old 0 bs new n → length bs ≤ length old → take n new ≡ bs
-put-whole {old} {bs} {new} {n} p h =
-    let e : n ≡ length bs = p .place ∙ zero-add (length bs) in
-    rw (e, p .bytes, put-front old bs h) (take-append-seam bs (drop (length bs) old))
-
 -- ── where an accepted container stands ──
 
 pub record Headed (s : List ℕ) (at n : ℕ) : Type 0 where
@@ -126,3 +118,31 @@ module _ (s : List ℕ) (at : ℕ) where
       accepts-pick _ (leb (h .«payload_len») (length s - n)) _ _
       (λ e. record { start = p .till; till = refl; within = omega (arith, p .within, leb-true (h .«payload_len») (length s - n) e) })
       (λ _. tt)
+
+-- a number that was read of bytes fits its width
+pub accepts-small : (w : ℕ) (s : List ℕ) → Bytes s → (at : ℕ) → Accepts (λ v n. v < 256 ^ w) (numAt w s at)
+unfolding fieldAt after
+accepts-small w s h at = go (spanAt at w s at) (spanned at w s at)
+  where
+    go : (x : Answer (Unit {0})) → Spanned at w s at x → Accepts (λ v n. v < 256 ^ w) (after x λ _ next. got (number (take w (drop at s))) next)
+    go (got t n) (there k) =
+        let l : length (take w (drop at s)) ≡ w = length-take-le w (drop at s) (omega (arith, length-drop at s)) in
+        rw l at (number-lt (take w (drop at s)) (Bytes-take w (drop at s) (Bytes-drop at s h)))
+    go (refused t) (short k) = tt
+
+module _ (s : List ℕ) (h : Bytes s) (at : ℕ) where
+  pub header-small : Accepts (λ x n. x .number < 256 ^ 4) (headerAt s at)
+  unfolding headerAt headerRest
+  header-small =
+      accepts-after _ _ (numAt 4 s at) _ (accepts-small 4 s h at) λ len a p.
+      accepts-after _ _ (numAt 2 s a) _ (accepts-small 2 s h a) λ kind b q.
+      accepts-pick _ (isKind kind) _ _
+      (λ _.
+      accepts-after _ _ (numAt 2 s b) _ (accepts-small 2 s h b) λ code c r.
+      accepts-after _ _ (numAt 4 s c) _ (accepts-small 4 s h c) λ tid d t.
+      accepts-pick _ (leb 12 len) _ _ (λ _. t) (λ _. tt))
+      (λ _. tt)
+
+  pub container-small : Accepts (λ x n. x .number < 256 ^ 4) (containerAt s at)
+  unfolding containerAt
+  container-small = accepts-after _ _ (headerAt s at) _ header-small λ x n p. accepts-pick _ (leb (x .«payload_len») (length s - n)) _ _ (λ _. p) (λ _. tt)

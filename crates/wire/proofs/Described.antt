@@ -152,6 +152,15 @@ value-from t s at v n e = go (valueAt t s at) ((values t) .inside s at) ((values
     go (got l m) (lies l′ m′ h i) e = let f : m ≡ n = cc in omega arith
     go (refused u) nowhere e = zero-one (cc)
 
+-- a value that is read is had by its place too
+pub located-means : (t : ℕ) (s : List ℕ) (at : ℕ) (v : Val) (n : ℕ) → (value t) .read s at ≡ got v n → (l : Located) × (valueAt t s at ≡ got l n)
+unfolding means
+located-means t s at v n e = go (valueAt t s at) ((values t) .agrees s at ∙ e)
+  where
+    go : (x : Answer Located) → means (shapeIn (shape t) s) x ≡ got v n → (l : Located) × (x ≡ got l n)
+    go (got l m) e = (l, ap (got l) (cc))
+    go (refused u) e = zero-one (cc)
+
 pub located-from : (t : ℕ) (s : List ℕ) (at : ℕ) (l : Located) (n : ℕ) → got l n ≡ valueAt t s at → at ≤ n
 located-from t s at l n e = go (valueAt t s at) ((values t) .inside s at) e
   where
@@ -225,7 +234,11 @@ form-lies t s at = lies-after _ (num-lies 1 s at) λ b p h _. by b p h
     by (suc (suc zero)) p h = lists p h
     by (suc (suc (suc n))) p h = rw (ne-eqb (suc (suc (suc n))) 1 (λ e. omega arith), ne-eqb (suc (suc (suc n))) 2 (λ e. omega arith)) (lies code.Absent p h tt)
 
-pub properties : Placed propertyIn (λ x. extent (x .«factory_default») ∷ extent (x .current) ∷ form-parts (x .form)) propertyAt (property .read)
+-- the parts of a description
+abbrev pub property-parts : PropInfo → List (ℕ × ℕ)
+property-parts x = extent (x .«factory_default») ∷ extent (x .current) ∷ form-parts (x .form)
+
+pub properties : Placed propertyIn property-parts propertyAt (property .read)
 unfolding propertyAt
 properties = record {
   agrees = property-agrees;

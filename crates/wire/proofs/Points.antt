@@ -12,16 +12,12 @@ use lib.ListN.{length, take, drop, length-append}
 use lib.Seq.{drop-drop}
 use Rattle.layout.specs.Answer.{Told, Answer, got, refused, pick, after, means, badText, spanAt, fieldAt}
 use Rattle.layout.specs.Bytes.{Bytes, bytes, number, cells}
-use Rattle.layout.specs.Written.{Put, spelling}
-use Rattle.layout.proofs.Determined.{Tells}
-use Rattle.layout.proofs.Make.{Spanned, short, spanned, there}
+use Rattle.layout.specs.Written.{spelling}
 use Rattle.layout.proofs.Numbers.{Bytes-drop, bytes-number}
 use Rattle.layout.proofs.Tidied.{zero-one}
 use Rattle.wire.specs.declared.Part.{Part}
 use Rattle.wire.specs.Layout.{high, paired}
 use Rattle.wire.specs.Places.{numAt, unitsAt, textAt, itemsIn}
-use Rattle.wire.specs.Tidy.{saysMeasured}
-use Rattle.wire.specs.declared.write.Measured.the-variants as measured
 use Rattle.wire.specs.Utf8.{pairPoint, points, encoded, encodedAll, utf8, utf8At, Leads}
 use Rattle.wire.proofs.Spelled.{length-cells}
 
@@ -133,13 +129,6 @@ module _ (s : List ℕ) (at : ℕ) where
   unfolding utf8At means
   utf8-refused t e = rw (← e)
 
-pub span-over : (field n : ℕ) (s : List ℕ) (at : ℕ) (t : Told) → refused t ≡ spanAt field n s at → length s - at < n
-span-over field n s at t e = go (spanAt field n s at) (spanned field n s at) e
-  where
-    go : (x : Answer (Unit {0})) → Spanned field n s at x → refused t ≡ x → length s - at < n
-    go (got u q) (there h) e = zero-one (cc)
-    go (refused u) (short h) e = h
-
 -- ── how long it can be ──
 
 points-few : (us : List ℕ) → length (points us) ≤ length us
@@ -204,14 +193,3 @@ utf8-short s h at = go (textAt s at) (text-few s h at)
     go : (x : Answer Part) → ((part : Part) (n : ℕ) → got part n ≡ x → part .count ≤ 254) → length (spelling (means (λ p. utf8 (itemsIn 2 s p)) x)) ≤ 1016
     go (got p n) f = omega (arith, f p n refl, utf8-few (itemsIn 2 s p), length-cells 2 (p .count) (drop (p .start) s))
     go (refused t) f = omega arith
-
--- ── two answers that a promise allows are equal ──
-
-pub tells-measured : Tells saysMeasured
-tells-measured (measured.Whole t n) (measured.Whole u m) e = cc
-tells-measured (measured.Whole t n) (measured.Refused u) e = zero-one (cc)
-tells-measured (measured.Refused t) (measured.Whole u m) e = zero-one (cc)
-tells-measured (measured.Refused t) (measured.Refused u) e = cc
-
-pub one-put : {old new new′ bs : List ℕ} {at next next′ : ℕ} → Put old at bs new next → Put old at bs new′ next′ → (new ≡ new′) × (next ≡ next′)
-one-put p q = (p .bytes ∙ sym (q .bytes), p .place ∙ sym (q .place))

@@ -11,7 +11,8 @@ use Rattle.layout.proofs.Reading.{heard, span-within}
 use Rattle.wire.specs.Says.{saysSpan}
 use Rattle.wire.specs.Utf8.{utf8}
 use Rattle.wire.proofs.Spelled.{length-cells}
-use Rattle.wire.proofs.Points.{utf8-few, span-over}
+use Rattle.layout.proofs.Reading.{span-over}
+use Rattle.wire.proofs.Points.{utf8-few}
 use Rattle.wire.proofs.utf8.has_room.Statement.{statement}
 use Rattle.wire.proofs.utf8.has_room.Tie as tie
 

@@ -1,0 +1,102 @@
+-- Every line has room in 128 bytes: a 64-bit number has at most twenty digits, and a name at most 37 bytes.
+-- Assumes nothing.
+use mathlib.Core.Bool.{Bool, true, false}
+use mathlib.Core.List.{List, _++_}
+use mathlib.Core.Option.{Option, some, none}
+use Prim.Native.Nat.{ℕ, _+_, _^_, _≤_, _<_}
+use native.Mathlib.Omega.{arith}
+use lib.Dec.{eqb}
+use lib.ListN.{length, length-append}
+use Rattle.layout.specs.Answer.{Told, pick}
+use Rattle.layout.specs.Written.{Put}
+use Rattle.names.specs.Names.{spelled, responseName, commandName}
+use Rattle.names.proofs.Spells.{Short, response-short, command-short}
+use Rattle.wire.specs.declared.container.Container.{Container}
+use Rattle.recording.specs.declared.Record.{Record}
+use Rattle.recording.specs.declared.Content.{Content}
+use Rattle.recording.specs.declared.Content.the-variants as content
+use Rattle.recording.proofs.Rowed.{Stands, Small}
+use Rattle.listing.specs.Lines.{decimal, hexCode, wayText, kindText, nameOr, nameFor, codeText, countsText, containerLine, noteLine, refusalLine, ending, contentLine, recordLine}
+use Rattle.listing.specs.Window.{lineRoom}
+use Rattle.listing.proofs.Numerals.{decimal-short, hex-length}
+use Rattle.listing.proofs.Pieces.{container-parts}
+
+way-short : (kind : ℕ) → length (wayText kind) ≤ 5
+unfolding wayText
+way-short kind = go (eqb kind 1)
+  where
+    go : (b : Bool) → length (pick b (spelled " in ") (spelled " out ")) ≤ 5
+    go true = omega arith
+    go false = omega arith
+
+kind-short : (kind : ℕ) → length (kindText kind) ≤ 9
+unfolding kindText
+kind-short kind = go (eqb kind 1) (eqb kind 2) (eqb kind 3)
+  where
+    go : (a b c : Bool) → length (pick a (spelled "Command ") (pick b (spelled "Data ") (pick c (spelled "Response ") (spelled "Event ")))) ≤ 9
+    go true b c = omega arith
+    go false true c = omega arith
+    go false false true = omega arith
+    go false false false = omega arith
+
+name-short : (kind code : ℕ) → Short (nameFor kind code)
+unfolding nameFor
+name-short kind code = go (eqb kind 3) (eqb kind 4)
+  where
+    go : (a b : Bool) → Short (pick a (responseName code) (pick b none (commandName code)))
+    go true b = response-short code
+    go false true = tt
+    go false false = command-short code
+
+code-short : (kind code : ℕ) → length (codeText kind code) ≤ 37
+unfolding codeText
+code-short kind code = go (nameFor kind code) (name-short kind code)
+  where
+    go : (o : Option (List ℕ)) → Short o → length (nameOr o (hexCode code)) ≤ 37
+    go (some bs) h = h
+    go none h = omega (arith, hex-length code)
+
+counts-short : (number count : ℕ) → number < 2 ^ 64 → count < 2 ^ 64 → length (countsText number count) ≤ 43
+unfolding countsText
+counts-short number count h k =
+    simp length-append (omega (arith, decimal-short number h, decimal-short count k))
+
+container-short : (place kind : ℕ) (x : Container) → place < 2 ^ 64 → x .number < 2 ^ 64 → x .payload .count < 2 ^ 64 → length (containerLine place kind x) ≤ lineRoom
+container-short place kind x h k l =
+    omega (
+      arith,
+      container-parts place kind x,
+      length-append (decimal place ++ wayText kind) (kindText (x .kind)),
+      length-append (decimal place) (wayText kind),
+      decimal-short place h,
+      way-short kind,
+      kind-short (x .kind),
+      code-short (x .kind) (x .code),
+      counts-short (x .number) (x .payload .count) k l,
+    )
+
+note-short : (place count : ℕ) → place < 2 ^ 64 → count < 2 ^ 64 → length (noteLine place count) ≤ lineRoom
+unfolding noteLine
+note-short place count h k = simp length-append (omega (arith, decimal-short place h, decimal-short count k))
+
+pub refusal-short : (place : ℕ) (t : Told) → place < 2 ^ 64 → t .no < 256 → length (refusalLine place t) ≤ lineRoom
+unfolding refusalLine
+refusal-short place t h k = simp length-append (omega (arith, decimal-short place h, decimal-short (t .no) (omega arith)))
+
+ending-short : (records count : ℕ) → records < 2 ^ 64 → count < 2 ^ 64 → length (ending records count) ≤ 64
+unfolding ending
+ending-short records count h k = simp length-append (omega (arith, decimal-short records h, decimal-short count k))
+
+pub ending-room : (records count n : ℕ) → records < 2 ^ 64 → count < 2 ^ 64 → 64 ≤ n → 0 + length (ending records count) ≤ n
+ending-room records count n h k l = omega (arith, ending-short records count h k)
+
+pub ending-placed : {records count r : ℕ} {old new : List ℕ} → records < 2 ^ 64 → count < 2 ^ 64 → Put old 0 (ending records count) new r → Put old 0 (ending records count) new r × (r ≤ 64)
+ending-placed {records} {count} h k p = (p, omega (arith, p .place, ending-short records count h k))
+
+pub record-short : (place : ℕ) (s : List ℕ) (x : Record) (n : ℕ) → place < 2 ^ 64 → length s < 2 ^ 64 → Stands s x n → Small s (x .content) → length (recordLine place x) ≤ lineRoom
+unfolding recordLine
+record-short place s x n h k p q = go (x .content) q
+  where
+    go : (c : Content) → Small s c → length (contentLine place (x .kind) (x .body .count) c) ≤ lineRoom
+    go content.Note q = note-short place (x .body .count) h (omega (arith, p .till, p .within))
+    go (content.Holds y) q = container-short place (x .kind) y h (omega (arith, q .0)) (omega (arith, q .1))

@@ -1,0 +1,116 @@
+// The listing of a recording, window by window. What is printed stands in specs/.
+ghost use mathlib.Core.Path.{_≡_};
+ghost use lib.ListN.{length};
+ghost use Rattle.layout.specs.Written.{Wrote, says, saysWritten};
+ghost use Rattle.names.specs.Names.{nameBytes};
+ghost use Rattle.listing.specs.Lines.{heading, ending};
+ghost use Rattle.listing.specs.Window.{answered, windowOf, Lists};
+ghost use Rattle.listing.specs.Window.{waits as Window·waits};
+
+mod line;
+
+use layout::Written;
+use recording::ReadRecord;
+
+// How far the listing has come: the place of the next record, and the whole records before it.
+pub struct Tally {
+    pub place: u64,
+    pub records: u64,
+}
+
+// What was listed of a window: the bytes used of it and written of the output, and whether a refusal ended the listing.
+pub struct Listed {
+    pub used: usize,
+    pub written: usize,
+    pub tally: Tally,
+    pub stopped: bool,
+}
+
+// Room that any line has.
+const LINE_ROOM: usize = 128;
+
+// The first line.
+pub fn write_heading(out: &mut [u8]) -> Written
+    ensures { λ r. ⌜ Wrote (says heading) (now (out .entry)) (saysWritten r) (now (out .exit)) ⌝ }
+{
+    let text = b"place way kind code tid bytes\n";
+    if out.len() < 30 {
+        return Written::Refused(layout::plain(9));
+    }
+    Written::Done(layout::copy(text, 0, 30, out, 0))
+}
+
+// Nothing more is to be listed of these bytes now.
+fn waits(s: &[u8], last: bool) -> bool
+    ensures { λ r. ⌜ r ≡ Window·waits last (now (s .entry)) ⌝ }
+{
+    if s.len() == 0 {
+        return true;
+    }
+    if last {
+        return false;
+    }
+    recording::is_cut(s)
+}
+
+fn answer(used: usize, written: usize, place: u64, records: u64, stopped: bool) -> Listed
+    ensures { λ r. ⌜ r ≡ answered used written place records stopped ⌝ }
+{
+    Listed {
+        used,
+        written,
+        tally: Tally { place, records },
+        stopped,
+    }
+}
+
+fn list_from(s: &[u8], last: bool, start: u64, count: u64, names: &[u8], out: &mut [u8]) -> Listed
+    requires { ⌜ now names ≡ nameBytes ⌝ }
+    ensures { λ r. ⌜ Lists (windowOf last (length (now (out .entry))) (now (s .entry)) start count) (now (out .entry)) r (now (out .exit)) ⌝ }
+{
+    let mut used = 0;
+    let mut written = 0;
+    let mut place = start;
+    let mut records = count;
+    while out.len() - written >= LINE_ROOM {
+        let part = &s[used..];
+        if waits(part, last) {
+            return answer(used, written, place, records, false);
+        }
+        match recording::read_record(part) {
+            ReadRecord::Got(x, next) => {
+                let taken = next.at;
+                written = line::put_record(place, x, names, out, written);
+                used += taken;
+                place = std::num::wrapping_add_u64(place, taken as u64);
+                records = std::num::wrapping_add_u64(records, 1);
+            }
+            ReadRecord::Refused(f) => {
+                written = line::put_refusal(place, f, out, written);
+                return answer(used, written, place, records, true);
+            }
+        }
+    }
+    answer(used, written, place, records, false)
+}
+
+// Lists the whole records of a window of the recording, as long as 128 bytes of room are left. `last` says that the input ends with the
+// window: then a record that is cut is refused, and else it waits for more bytes.
+pub fn list_window(s: &[u8], last: bool, from: Tally, out: &mut [u8]) -> Listed
+    ensures { λ r. ⌜ Lists (windowOf last (length (now (out .entry))) (now (s .entry)) (from .place) (from .records)) (now (out .entry)) r (now (out .exit)) ⌝ }
+{
+    let names = names::name_bytes();
+    list_from(s, last, from.place, from.records, &names, out)
+}
+
+// The last line: the whole records and their bytes.
+pub fn write_ending(tally: Tally, out: &mut [u8]) -> Written
+    ensures { λ r. ⌜ Wrote (says (ending (tally .records) (tally .place))) (now (out .entry)) (saysWritten r) (now (out .exit)) ⌝ }
+{
+    let mut text = [0u8; 64];
+    let n = line::put_ending(tally.records, tally.place, &mut text);
+    if out.len() < n {
+        return Written::Refused(layout::plain(9));
+    }
+    Written::Done(layout::copy(&text[..n], 0, n, out, 0))
+}

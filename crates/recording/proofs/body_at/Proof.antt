@@ -1,0 +1,67 @@
+-- `recording::body_at`: the tests in their order, then what the body holds. Assumes nothing.
+use mathlib.Core.Path.{sym, _∙_}
+use Prim.Native.Nat.{_-_}
+use native.Mathlib.Omega.{arith}
+use borrow.Author.Tests.{not-true, not-false}
+use denote.Ref.{now}
+use lib.Seq.{length-take-le}
+use Rattle.layout.proofs.Reading.{heard, meant, not-meant}
+use Rattle.recording.specs.Record.{saysContent}
+use Rattle.recording.proofs.Recorded.{long-enough, body-13, body-14, body-short, body-there}
+use borrow.Author.Needs.{needs}
+use Rattle.recording.proofs.body_at.Statement.{statement}
+use Rattle.recording.proofs.body_at.Tie as tie
+
+returns : tie.Need-returns
+returns c =
+    let a = c .before .before .before .before .args in
+    body-13 (a .len) (a .kind) (now (a .s)) (a .start) (sym (c .before .before .begins .ensures) ∙ not-true _ (c .before .if1 .taken)) (c .plain .ensures)
+
+returns-2 : tie.Need-returns-2
+returns-2 c =
+    let a = c .before .before .before .before .before .args in
+    body-14 (a .len) (a .kind) (now (a .s)) (a .start) (sym (c .before .before .before .begins .ensures) ∙ not-false _ (c .before .before .if1 .left)) (c .before .if2 .taken) (c .plain2 .ensures)
+
+returns-3 : tie.Need-returns-3
+returns-3 c =
+    let a = c .before .before .before .before .before .before .args in
+    body-short (a .len) (a .kind) (now (a .s)) (a .start) (sym (c .before .before .before .before .begins .ensures) ∙ not-false _ (c .before .before .before .if1 .left)) (c .before .before .if2 .left) (c .before .if3 .taken) (c .end-at .ensures)
+
+slice-aggregate-content-at : tie.Need-slice-aggregate-content-at
+slice-aggregate-content-at c = sym (length-take-le _ _ (omega arith))
+
+returns-4 : tie.Need-returns-4
+returns-4 c =
+    let k = c .before .before .before .before .before in
+    let a = k .before .before .before .before .before .args in
+    body-there (a .len) (a .kind) (now (a .s)) (a .start) (sym (k .before .before .before .begins .ensures) ∙ not-false _ (k .before .before .if1 .left)) (k .before .if2 .left) (k .if3 .left)
+    (meant _ (heard saysContent (c .before .content .given .1) (c .before .before .before .content-at .ensures)))
+
+returns-5 : tie.Need-returns-5
+returns-5 c =
+    let k = c .before .before .before .before .before in
+    let a = k .before .before .before .before .before .args in
+    body-there (a .len) (a .kind) (now (a .s)) (a .start) (sym (k .before .before .before .begins .ensures) ∙ not-false _ (k .before .before .if1 .left)) (k .before .if2 .left) (k .if3 .left)
+    (not-meant _ (heard saysContent (c .before .f .given .1) (c .before .before .before .content-at .ensures)))
+
+pub body-at-spec : {M : Type 1} → statement M
+body-at-spec =
+    tie.close
+    (tie.spec
+    (λ c κs. search needs)
+    (λ c κs. search needs)
+    returns
+    (λ c. long-enough (c .before .before .before .args .len) (c .before .before .before .args .kind) (sym (c .before .begins .ensures) ∙ not-false _ (c .if1 .left)))
+    (λ c. search needs)
+    (λ c κs. search needs)
+    returns-2
+    (λ c. search needs)
+    (λ c κs. search needs)
+    returns-3
+    (λ c. search needs)
+    slice-aggregate-content-at
+    (λ c κs. search needs)
+    (λ c. search needs)
+    (λ c. search needs)
+    returns-4
+    returns-5)

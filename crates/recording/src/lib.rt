@@ -1,0 +1,176 @@
+// Records of a recording, read and written one at a time.
+ghost use mathlib.Core.Path.{_≡_};
+ghost use Prim.Native.Nat.{_≤_};
+ghost use lib.ListN.{length};
+ghost use Rattle.layout.specs.Written.{Wrote, says, saysWritten};
+ghost use Rattle.recording.specs.Record.{limit, isKind, contentAt, bodyAt, recordOf, recordWord, recordSaid, saysContent, saysRecord};
+ghost use Rattle.recording.specs.Record.{begins as Record·begins};
+ghost use Rattle.recording.specs.Row.{shortOf, isCut};
+use layout::Refusal;
+use layout::Written;
+use wire::Container;
+use wire::Cursor;
+use wire::Part;
+use wire::ReadContainer;
+use wire::ReadU16;
+use wire::ReadU32;
+
+// The longest body.
+const LIMIT: usize = 8192;
+
+// What a body holds.
+pub enum Content {
+    Note,
+    Holds(Container),
+}
+
+// A record's body by its place.
+pub struct Record {
+    pub kind: u16,
+    pub body: Part,
+    pub content: Content,
+}
+
+enum ReadContent {
+    Got(Content, Cursor),
+    Refused(Refusal),
+}
+
+pub enum ReadRecord {
+    Got(Record, Cursor),
+    Refused(Refusal),
+}
+
+fn is_kind(kind: u16) -> bool
+    ensures { λ r. ⌜ r ≡ isKind kind ⌝ }
+{
+    if kind < 1 {
+        return false;
+    }
+    kind <= 3
+}
+
+fn begins(len: u32, kind: u16) -> bool
+    ensures { λ r. ⌜ r ≡ Record·begins len kind ⌝ }
+{
+    if len < 6 {
+        return false;
+    }
+    is_kind(kind)
+}
+
+// What the body at a place holds, in bytes that end with it.
+fn content_at(kind: u16, s: &[u8], at: usize) -> ReadContent
+    ensures { λ r. ⌜ saysContent r ≡ contentAt kind (now (s .entry)) at ⌝ }
+{
+    if kind == 3 {
+        return ReadContent::Got(Content::Note, Cursor { at: s.len() });
+    }
+    match wire::read_container(s, Cursor { at }) {
+        ReadContainer::Got(x, next) => {
+            if next.at != s.len() {
+                return ReadContent::Refused(layout::plain(3));
+            }
+            ReadContent::Got(Content::Holds(x), next)
+        }
+        ReadContainer::Refused(f) => ReadContent::Refused(f),
+    }
+}
+
+// The body that starts at a place, of a record of that length and kind.
+fn body_at(len: u32, kind: u16, s: &[u8], start: usize) -> ReadRecord
+    requires { ⌜ start ≤ length (now s) ⌝ }
+    ensures { λ r. ⌜ saysRecord r ≡ bodyAt len kind (now (s .entry)) start ⌝ }
+{
+    if !begins(len, kind) {
+        return ReadRecord::Refused(layout::plain(13));
+    }
+    let count = (len - 6) as usize;
+    if count > LIMIT {
+        return ReadRecord::Refused(layout::plain(14));
+    }
+    if s.len() - start < count {
+        return ReadRecord::Refused(layout::end_at(start));
+    }
+    let end = start + count;
+    match content_at(kind, &s[..end], start) {
+        ReadContent::Got(content, next) => ReadRecord::Got(
+            Record {
+                kind,
+                body: Part { start, count },
+                content,
+            },
+            next,
+        ),
+        ReadContent::Refused(f) => ReadRecord::Refused(f),
+    }
+}
+
+// The record at the front of the bytes.
+pub fn read_record(s: &[u8]) -> ReadRecord
+    ensures { λ r. ⌜ saysRecord r ≡ recordOf (now (s .entry)) ⌝ }
+{
+    match (Cursor { at: 0 }).u32(s) {
+        ReadU32::Got(len, a) => match a.u16(s) {
+            ReadU16::Got(kind, body) => body_at(len, kind, s, body.at),
+            ReadU16::Refused(f) => ReadRecord::Refused(f),
+        },
+        ReadU32::Refused(f) => ReadRecord::Refused(f),
+    }
+}
+
+fn falls_short(len: u32, kind: u16, s: &[u8], start: usize) -> bool
+    requires { ⌜ start ≤ length (now s) ⌝ }
+    ensures { λ r. ⌜ r ≡ shortOf len kind (now (s .entry)) start ⌝ }
+{
+    if !begins(len, kind) {
+        return false;
+    }
+    let count = (len - 6) as usize;
+    if count > LIMIT {
+        return false;
+    }
+    s.len() - start < count
+}
+
+// Whether bytes that follow these may change what is found at their front.
+pub fn is_cut(s: &[u8]) -> bool
+    ensures { λ r. ⌜ r ≡ isCut (now (s .entry)) ⌝ }
+{
+    match (Cursor { at: 0 }).u32(s) {
+        ReadU32::Got(len, a) => match a.u16(s) {
+            ReadU16::Got(kind, body) => falls_short(len, kind, s, body.at),
+            ReadU16::Refused(_) => true,
+        },
+        ReadU32::Refused(_) => true,
+    }
+}
+
+fn put_record(kind: u16, body: &[u8], out: &mut [u8]) -> Written
+    requires { ⌜ length (now body) ≤ limit ⌝ }
+    ensures { λ r. ⌜ Wrote (says (recordWord kind (now (body .entry)))) (now (out .entry)) (saysWritten r) (now (out .exit)) ⌝ }
+{
+    let whole = 6 + body.len();
+    if out.len() < whole {
+        return Written::Refused(layout::plain(9));
+    }
+    let a = layout::store(out, 0, 4, whole as u64);
+    let b = layout::store(out, a, 2, kind as u64);
+    Written::Done(layout::copy(body, 0, body.len(), out, b))
+}
+
+// One record at the front of the part lent to it.
+pub fn write_record(kind: u16, body: &[u8], out: &mut [u8]) -> Written
+    ensures { λ r. ⌜ Wrote (recordSaid kind (now (body .entry))) (now (out .entry)) (saysWritten r) (now (out .exit)) ⌝ }
+{
+    if !is_kind(kind) {
+        return Written::Refused(layout::plain(13));
+    }
+    if body.len() > LIMIT {
+        return Written::Refused(layout::plain(14));
+    }
+    match content_at(kind, body, 0) {
+        ReadContent::Got(_, _) => put_record(kind, body, out),
+        ReadContent::Refused(f) => Written::Refused(f),
+    }
+}

@@ -1,0 +1,4 @@
+pub mod Sending
+pub mod Searched
+pub mod Filled
+pub mod Unique

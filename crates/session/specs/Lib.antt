@@ -1,0 +1,4 @@
+pub mod Transaction
+pub mod Search
+pub mod Calls
+pub mod Payloads

@@ -1,0 +1,32 @@
+// Transactions and camera calls, above the byte layer, which they know only through its promises. What is right is in specs/.
+mod call;
+mod payload;
+mod search;
+mod transaction;
+
+pub use call::close_session;
+pub use call::get_device_info;
+pub use call::get_num_objects;
+pub use call::get_num_objects_all;
+pub use call::get_num_objects_roots;
+pub use call::get_object;
+pub use call::get_object_handles;
+pub use call::get_object_handles_all;
+pub use call::get_object_handles_root;
+pub use call::get_object_info;
+pub use call::get_storage_ids;
+pub use call::get_storage_info;
+pub use call::open_session;
+pub use payload::device_info;
+pub use payload::object_count;
+pub use payload::object_handles;
+pub use payload::object_info;
+pub use payload::storage_ids;
+pub use payload::storage_info;
+pub use search::Found;
+pub use search::find_answer;
+pub use transaction::Made;
+pub use transaction::Session;
+pub use transaction::command;
+pub use transaction::command_with_data;
+pub use transaction::fresh;
