@@ -1,6 +1,6 @@
 // header, container, write-container.
-use crate::Said;
 use crate::print;
+use crate::question::OfContainer;
 use crate::words;
 use crate::words::Rest;
 use wire::Container;
@@ -20,12 +20,7 @@ fn header_words(text: &mut [u8], at: usize, h: Header) -> usize {
     print::numbers(text, o, &words)
 }
 
-fn header(line: &mut [u8], rest: Rest, text: &mut [u8], at: usize) -> usize {
-    let data = rest.bytes(line);
-    if !data.rest.done(line) {
-        return print::unknown(text, at);
-    }
-    let src = words::counted(line, data.start, data.count);
+fn header(src: &[u8], text: &mut [u8], at: usize) -> usize {
     match wire::read_header(src, Cursor { at: 0 }) {
         ReadHeader::Got(h, _) => header_words(text, at, h),
         ReadHeader::Refused(f) => print::refused(text, at, f.no),
@@ -45,25 +40,26 @@ fn container_words(text: &mut [u8], at: usize, c: Container) -> usize {
     print::numbers(text, o, &words)
 }
 
-fn container(line: &mut [u8], rest: Rest, text: &mut [u8], at: usize) -> usize {
-    let data = rest.bytes(line);
-    if !data.rest.done(line) {
-        return print::unknown(text, at);
-    }
-    let src = words::counted(line, data.start, data.count);
+fn container(src: &[u8], text: &mut [u8], at: usize) -> usize {
     match wire::read_container(src, Cursor { at: 0 }) {
         ReadContainer::Got(c, _) => container_words(text, at, c),
         ReadContainer::Refused(f) => print::refused(text, at, f.no),
     }
 }
 
-fn write_container(
-    line: &mut [u8],
-    rest: Rest,
-    out: &mut [u8],
-    text: &mut [u8],
-    at: usize,
-) -> usize {
+fn read(q: OfContainer, line: &mut [u8], rest: Rest, text: &mut [u8], at: usize) -> usize {
+    let data = rest.bytes(line);
+    if !data.rest.done(line) {
+        return print::unknown(text, at);
+    }
+    let src = words::counted(line, data.start, data.count);
+    if let OfContainer::Header = q {
+        return header(src, text, at);
+    }
+    container(src, text, at)
+}
+
+fn write(line: &mut [u8], rest: Rest, out: &mut [u8], text: &mut [u8], at: usize) -> usize {
     let kind = rest.u16(line);
     let code = kind.rest.u16(line);
     let number = code.rest.u32(line);
@@ -78,15 +74,16 @@ fn write_container(
     print::written(text, at, w, page)
 }
 
-pub fn answer(line: &mut [u8], rest: Rest, out: &mut [u8], text: &mut [u8], at: usize) -> Said {
-    if rest.asks(line, b"header") {
-        return Said::At(header(line, rest, text, at));
+pub fn answer(
+    q: OfContainer,
+    line: &mut [u8],
+    rest: Rest,
+    out: &mut [u8],
+    text: &mut [u8],
+    at: usize,
+) -> usize {
+    if let OfContainer::WriteContainer = q {
+        return write(line, rest, out, text, at);
     }
-    if rest.asks(line, b"container") {
-        return Said::At(container(line, rest, text, at));
-    }
-    if rest.asks(line, b"write-container") {
-        return Said::At(write_container(line, rest, out, text, at));
-    }
-    Said::NotMine
+    read(q, line, rest, text, at)
 }

@@ -1,7 +1,7 @@
 // Datasets: device, object, storage, property, and their tidy writers.
-use crate::Said;
 use crate::fields;
 use crate::print;
+use crate::question::Dataset;
 use crate::words;
 use crate::words::Rest;
 use layout::Written;
@@ -10,13 +10,6 @@ use wire::ReadDevice;
 use wire::ReadObject;
 use wire::ReadProperty;
 use wire::ReadStorage;
-
-enum Dataset {
-    Device,
-    Object,
-    Storage,
-    Property,
-}
 
 // `ok` and the length taken.
 fn taken(text: &mut [u8], at: usize, next: Cursor) -> usize {
@@ -64,7 +57,7 @@ fn property(src: &[u8], text: &mut [u8], at: usize) -> usize {
     }
 }
 
-fn read(d: Dataset, line: &mut [u8], rest: Rest, text: &mut [u8], at: usize) -> usize {
+pub fn read(d: Dataset, line: &mut [u8], rest: Rest, text: &mut [u8], at: usize) -> usize {
     let data = rest.bytes(line);
     if !data.rest.done(line) {
         return print::unknown(text, at);
@@ -87,7 +80,7 @@ fn tidied(d: Dataset, src: &[u8], out: &mut [u8]) -> Written {
     }
 }
 
-fn tidy(
+pub fn tidy(
     d: Dataset,
     line: &mut [u8],
     rest: Rest,
@@ -104,36 +97,4 @@ fn tidy(
     let page = print::page(out, size.v);
     let w = tidied(d, src, page);
     print::written(text, at, w, page)
-}
-
-fn reading(line: &mut [u8], rest: Rest, text: &mut [u8], at: usize) -> Said {
-    if rest.asks(line, b"device") {
-        return Said::At(read(Dataset::Device, line, rest, text, at));
-    }
-    if rest.asks(line, b"object") {
-        return Said::At(read(Dataset::Object, line, rest, text, at));
-    }
-    if rest.asks(line, b"storage") {
-        return Said::At(read(Dataset::Storage, line, rest, text, at));
-    }
-    if rest.asks(line, b"property") {
-        return Said::At(read(Dataset::Property, line, rest, text, at));
-    }
-    Said::NotMine
-}
-
-pub fn answer(line: &mut [u8], rest: Rest, out: &mut [u8], text: &mut [u8], at: usize) -> Said {
-    if rest.asks(line, b"tidy-device") {
-        return Said::At(tidy(Dataset::Device, line, rest, out, text, at));
-    }
-    if rest.asks(line, b"tidy-object") {
-        return Said::At(tidy(Dataset::Object, line, rest, out, text, at));
-    }
-    if rest.asks(line, b"tidy-storage") {
-        return Said::At(tidy(Dataset::Storage, line, rest, out, text, at));
-    }
-    if rest.asks(line, b"tidy-property") {
-        return Said::At(tidy(Dataset::Property, line, rest, out, text, at));
-    }
-    reading(line, rest, text, at)
 }

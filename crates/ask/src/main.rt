@@ -4,21 +4,20 @@ mod dataset;
 mod fields;
 mod input;
 mod integer;
+mod list;
 mod name;
+mod payload;
 mod print;
+mod question;
+mod record;
 mod show;
 mod table;
+mod transaction;
 mod value;
 mod words;
 
 use input::Held;
-use words::Rest;
-
-// The place after an answer, or that another module has the question.
-enum Said {
-    At(usize),
-    NotMine,
-}
+use question::Question;
 
 // Where the first line stands that is not answered, and the place after the answers.
 struct Done {
@@ -40,27 +39,6 @@ fn list32() -> [u32; 8192] {
     [0u32; 8192]
 }
 
-fn answer_values(
-    line: &mut [u8],
-    rest: Rest,
-    out: &mut [u8],
-    halves: &mut [u16],
-    text: &mut [u8],
-    at: usize,
-) -> Said {
-    if let Said::At(o) = name::answer(line, rest, text, at) {
-        return Said::At(o);
-    }
-    value::answer(line, rest, out, halves, text, at)
-}
-
-fn answer_records(line: &mut [u8], rest: Rest, out: &mut [u8], text: &mut [u8], at: usize) -> Said {
-    if let Said::At(o) = dataset::answer(line, rest, out, text, at) {
-        return Said::At(o);
-    }
-    container::answer(line, rest, out, text, at)
-}
-
 fn answer(
     line: &mut [u8],
     out: &mut [u8],
@@ -70,16 +48,19 @@ fn answer(
     at: usize,
 ) -> usize {
     let rest = words::first(line);
-    if let Said::At(o) = answer_values(line, rest, out, halves, text, at) {
-        return o;
+    match question::question_of(words::part(line, 0, rest.at)) {
+        Question::Name(q) => name::answer(q, line, rest, text, at),
+        Question::Value(q) => value::answer(q, line, rest, out, halves, text, at),
+        Question::Read(d) => dataset::read(d, line, rest, text, at),
+        Question::Tidy(d) => dataset::tidy(d, line, rest, out, text, at),
+        Question::List(q) => list::answer(q, line, rest, text, at),
+        Question::Container(q) => container::answer(q, line, rest, out, text, at),
+        Question::Session(q) => transaction::answer(q, line, rest, out, numbers, text, at),
+        Question::Payload(q) => payload::answer(q, line, rest, text, at),
+        Question::Table(q) => table::answer(q, line, rest, out, halves, numbers, text, at),
+        Question::Recording(q) => record::answer(q, line, rest, out, text, at),
+        Question::Unknown => print::unknown(text, at),
     }
-    if let Said::At(o) = answer_records(line, rest, out, text, at) {
-        return o;
-    }
-    if let Said::At(o) = table::answer(line, rest, out, halves, numbers, text, at) {
-        return o;
-    }
-    print::unknown(text, at)
 }
 
 // An answer with its line end; of a line that is too long not all is there.

@@ -1,6 +1,6 @@
 // response-name, command-name.
-use crate::Said;
 use crate::print;
+use crate::question::OfName;
 use crate::words;
 use crate::words::Rest;
 use names::Named;
@@ -16,32 +16,19 @@ fn named(text: &mut [u8], at: usize, n: Named, out: &[u8]) -> usize {
     }
 }
 
-fn response_name(line: &[u8], rest: Rest, text: &mut [u8], at: usize) -> usize {
+fn write_name(q: OfName, code: u16, out: &mut [u8]) -> Named {
+    match q {
+        OfName::Response => names::write_response_name(code, out),
+        OfName::Command => names::write_command_name(code, out),
+    }
+}
+
+pub fn answer(q: OfName, line: &[u8], rest: Rest, text: &mut [u8], at: usize) -> usize {
     let code = rest.u16(line);
     if !code.rest.done(line) {
         return print::unknown(text, at);
     }
     let mut room = [0u8; 64];
-    let n = names::write_response_name(code.v, &mut room);
+    let n = write_name(q, code.v, &mut room);
     named(text, at, n, &room)
-}
-
-fn command_name(line: &[u8], rest: Rest, text: &mut [u8], at: usize) -> usize {
-    let code = rest.u16(line);
-    if !code.rest.done(line) {
-        return print::unknown(text, at);
-    }
-    let mut room = [0u8; 64];
-    let n = names::write_command_name(code.v, &mut room);
-    named(text, at, n, &room)
-}
-
-pub fn answer(line: &[u8], rest: Rest, text: &mut [u8], at: usize) -> Said {
-    if rest.asks(line, b"response-name") {
-        return Said::At(response_name(line, rest, text, at));
-    }
-    if rest.asks(line, b"command-name") {
-        return Said::At(command_name(line, rest, text, at));
-    }
-    Said::NotMine
 }

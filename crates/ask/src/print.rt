@@ -164,7 +164,8 @@ fn fill(out: &mut [u8]) {
     }
 }
 
-fn output(text: &mut [u8], at: usize, out: &[u8]) -> usize {
+// A space and the bytes.
+pub fn output(text: &mut [u8], at: usize, out: &[u8]) -> usize {
     let o = put(text, at, b' ');
     bytes(text, o, out)
 }

@@ -4,6 +4,7 @@ use wire::Cursor;
 use wire::Pair;
 use wire::Part;
 use wire::ReadU16;
+use wire::ReadU32;
 use wire::ReadValue;
 use wire::Value;
 
@@ -26,6 +27,30 @@ fn pair(text: &mut [u8], at: usize, p: Pair) -> usize {
     let o = print::decimal(text, at, p.high);
     let a = print::put(text, o, b':');
     print::decimal(text, a, p.low)
+}
+
+// An array's u32 numbers as a list.
+pub fn numbers(text: &mut [u8], at: usize, src: &[u8], p: Part) -> usize {
+    let count = p.count;
+    if count == 0 {
+        return print::put(text, at, b'-');
+    }
+    let mut place = p.start;
+    let mut o = at;
+    let mut i: usize = 0;
+    while i < count {
+        let a = print::between(text, o, i, b',');
+        match (Cursor { at: place }).u32(src) {
+            ReadU32::Got(n, next) => {
+                o = print::decimal(text, a, print::wide32(n));
+                place = next.at;
+            }
+            // never: the array was read whole
+            ReadU32::Refused(f) => return print::refused(text, a, f.no),
+        }
+        i += 1;
+    }
+    o
 }
 
 // A value that is no array; an array is left out.

@@ -1,6 +1,6 @@
 // The object table: walk, path, paths.
-use crate::Said;
 use crate::print;
+use crate::question::OfTable;
 use crate::words;
 use crate::words::MOST_NUMBERS;
 use crate::words::Rest;
@@ -161,28 +161,8 @@ fn paths(
     )
 }
 
-enum Asked {
-    Walk,
-    Path,
-    Paths,
-    Other,
-}
-
-fn question(line: &[u8], rest: Rest) -> Asked {
-    if rest.asks(line, b"walk") {
-        return Asked::Walk;
-    }
-    if rest.asks(line, b"path") {
-        return Asked::Path;
-    }
-    if rest.asks(line, b"paths") {
-        return Asked::Paths;
-    }
-    Asked::Other
-}
-
 fn answer_table(
-    q: Asked,
+    q: OfTable,
     line: &[u8],
     n: Sizes,
     halves: &[u16],
@@ -192,14 +172,14 @@ fn answer_table(
     at: usize,
 ) -> usize {
     match q {
-        Asked::Walk => walk(line, n, halves, numbers, text, at),
-        Asked::Path => path(line, n, halves, numbers, out, text, at),
-        Asked::Paths => paths(line, n, halves, numbers, out, text, at),
-        Asked::Other => print::unknown(text, at),
+        OfTable::Walk => walk(line, n, halves, numbers, text, at),
+        OfTable::Path => path(line, n, halves, numbers, out, text, at),
+        OfTable::Paths => paths(line, n, halves, numbers, out, text, at),
     }
 }
 
 pub fn answer(
+    q: OfTable,
     line: &mut [u8],
     rest: Rest,
     out: &mut [u8],
@@ -207,11 +187,7 @@ pub fn answer(
     numbers: &mut [u32],
     text: &mut [u8],
     at: usize,
-) -> Said {
-    let q = question(line, rest);
-    if let Asked::Other = q {
-        return Said::NotMine;
-    }
+) -> usize {
     let n = read_table(line, rest, halves, numbers);
-    Said::At(answer_table(q, line, n, halves, numbers, out, text, at))
+    answer_table(q, line, n, halves, numbers, out, text, at)
 }

@@ -1,8 +1,8 @@
 // value, end, unit, item, utf8, and the writers of values.
-use crate::Said;
 use crate::integer;
 use crate::integer::Given;
 use crate::print;
+use crate::question::OfValue;
 use crate::show;
 use crate::words;
 use crate::words::Rest;
@@ -152,39 +152,23 @@ fn tidy_value(line: &mut [u8], rest: Rest, out: &mut [u8], text: &mut [u8], at: 
 }
 
 pub fn answer(
+    q: OfValue,
     line: &mut [u8],
     rest: Rest,
     out: &mut [u8],
     list: &mut [u16],
     text: &mut [u8],
     at: usize,
-) -> Said {
-    if rest.asks(line, b"value") {
-        return Said::At(value(line, rest, text, at));
+) -> usize {
+    match q {
+        OfValue::Value => value(line, rest, text, at),
+        OfValue::End => end(line, rest, text, at),
+        OfValue::Unit => unit(line, rest, text, at),
+        OfValue::Item => item(line, rest, text, at),
+        OfValue::Utf8 => utf8(line, rest, out, text, at),
+        OfValue::WriteValue => write_value(line, rest, out, text, at),
+        OfValue::WriteString => write_string(line, rest, out, list, text, at),
+        OfValue::WriteArray => write_array(line, rest, out, text, at),
+        OfValue::TidyValue => tidy_value(line, rest, out, text, at),
     }
-    if rest.asks(line, b"end") {
-        return Said::At(end(line, rest, text, at));
-    }
-    if rest.asks(line, b"unit") {
-        return Said::At(unit(line, rest, text, at));
-    }
-    if rest.asks(line, b"item") {
-        return Said::At(item(line, rest, text, at));
-    }
-    if rest.asks(line, b"utf8") {
-        return Said::At(utf8(line, rest, out, text, at));
-    }
-    if rest.asks(line, b"write-value") {
-        return Said::At(write_value(line, rest, out, text, at));
-    }
-    if rest.asks(line, b"write-string") {
-        return Said::At(write_string(line, rest, out, list, text, at));
-    }
-    if rest.asks(line, b"write-array") {
-        return Said::At(write_array(line, rest, out, text, at));
-    }
-    if rest.asks(line, b"tidy-value") {
-        return Said::At(tidy_value(line, rest, out, text, at));
-    }
-    Said::NotMine
 }

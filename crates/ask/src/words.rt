@@ -348,11 +348,6 @@ impl Rest {
         self
     }
 
-    // Whether what stands before it, the line's first word, is this one.
-    pub fn asks(self, line: &[u8], name: &[u8]) -> bool {
-        same(part(line, 0, self.at), name)
-    }
-
     // Whether the line ends here, all its words being right.
     pub fn done(self, line: &[u8]) -> bool {
         if self.ok {
