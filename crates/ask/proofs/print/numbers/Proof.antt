@@ -1,0 +1,29 @@
+-- `ask::print::numbers` ends: what is left falls. Assumes nothing.
+use mathlib.Core.Path.{_≡_}
+use Prim.Native.Nat.{_≤_, _-_}
+use lib.ListN.{length}
+use borrow.Author.Needs.{needs}
+use Rattle.ask.proofs.print.numbers.Statement.{statement}
+use Rattle.ask.proofs.print.numbers.Tie as tie
+
+abbrev Inv-loop : tie.InvT-loop
+Inv-loop text₀ at ns o₀ i₀ text o i = (i ≤ length ns) × (length text ≡ length text₀)
+
+abbrev μ-loop : tie.MeasureT-loop
+μ-loop text₀ at ns o₀ i₀ text o i = length ns - i
+
+pub numbers-spec : {M : Type 1} → statement M
+numbers-spec =
+    tie.close
+    (tie.spec
+    Inv-loop
+    μ-loop
+    (λ c. search needs)
+    (λ c. search needs)
+    (λ c. search needs)
+    (λ c κs. search needs)
+    (λ c. search needs)
+    (λ c. search needs)
+    (λ c. search needs)
+    (λ c. search needs)
+    (λ c. search needs))

@@ -1,0 +1,62 @@
+// Standard input, block by block: the lines lie in one lent buffer, and what is left of the last is moved to its front.
+use crate::words;
+
+const MOST_LINE: usize = 1200000;
+
+// How much of the buffer is filled, and whether the line that begins it is too long, so that its beginning is gone.
+pub struct Held {
+    pub end: usize,
+    pub is_long: bool,
+}
+
+// The buffer for the longest line and a block behind it.
+pub fn room() -> [u8; 1265536] {
+    [0u8; 1265536]
+}
+
+// Reads once behind what is there, and answers the place after it all; the same place where nothing came.
+pub fn more(lines: &mut [u8], end: usize) -> usize {
+    let size = lines.len();
+    let free = words::part_mut(lines, end, size);
+    let got = libc::read(0, free);
+    let n = io::count(got, free);
+    if end <= size {
+        if n <= size - end {
+            return end + n;
+        }
+    }
+    end
+}
+
+fn move_front(lines: &mut [u8], start: usize, end: usize) -> usize {
+    let mut i = start;
+    let mut o: usize = 0;
+    while i < end {
+        if lines.len() <= i {
+            return o;
+        }
+        lines[o] = lines[i];
+        i += 1;
+        o += 1;
+    }
+    o
+}
+
+// Keeps what begins the next line; of a line that is too long, nothing.
+pub fn keep(lines: &mut [u8], start: usize, end: usize, is_long: bool) -> Held {
+    if is_long {
+        return Held { end: 0, is_long };
+    }
+    let n = move_front(lines, start, end);
+    if MOST_LINE < n {
+        return Held {
+            end: 0,
+            is_long: true,
+        };
+    }
+    Held { end: n, is_long }
+}
+
+pub fn is_too_long(line: &[u8]) -> bool {
+    MOST_LINE < line.len()
+}
