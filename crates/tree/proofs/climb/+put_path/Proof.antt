@@ -1,6 +1,6 @@
 -- `tree::climb::put_path`: the place falls at each call; the parent's path, the slash and the name are one write. Assumes nothing.
 use mathlib.Core.Path.{ap}
-use Prim.Native.Nat.{ℕ}
+use Prim.Native.Nat.{ℕ, _<_}
 use native.Mathlib.Omega.{arith}
 use borrow.Author.Needs.{needs}
 use borrow.Fn.Kinds.{In}
