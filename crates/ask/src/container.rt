@@ -1,7 +1,7 @@
 // header, container, write-container.
 use crate::print;
 use crate::question::OfContainer;
-use crate::words;
+use crate::slice;
 use crate::words::Rest;
 use wire::Container;
 use wire::Cursor;
@@ -48,11 +48,11 @@ fn container(src: &[u8], text: &mut [u8], at: usize) -> usize {
 }
 
 fn read(q: OfContainer, line: &mut [u8], rest: Rest, text: &mut [u8], at: usize) -> usize {
-    let data = rest.bytes(line);
-    if !data.rest.done(line) {
+    let data = rest.last_bytes(line);
+    if !data.ok {
         return print::unknown(text, at);
     }
-    let src = words::counted(line, data.start, data.count);
+    let src = slice::counted(line, data.start, data.count);
     if let OfContainer::Header = q {
         return header(src, text, at);
     }
@@ -64,12 +64,12 @@ fn write(line: &mut [u8], rest: Rest, out: &mut [u8], text: &mut [u8], at: usize
     let code = kind.rest.u16(line);
     let number = code.rest.u32(line);
     let data = number.rest.bytes(line);
-    let size = data.rest.room(line);
-    if !size.rest.done(line) {
+    let room = data.rest.last_room(line);
+    if !room.ok {
         return print::unknown(text, at);
     }
-    let src = words::counted(line, data.start, data.count);
-    let page = print::page(out, size.v);
+    let src = slice::counted(line, data.start, data.count);
+    let page = print::page(out, room.size);
     let w = wire::write_container(kind.v, code.v, number.v, src, page);
     print::written(text, at, w, page)
 }

@@ -2,7 +2,7 @@
 use crate::fields;
 use crate::print;
 use crate::question::Dataset;
-use crate::words;
+use crate::slice;
 use crate::words::Rest;
 use layout::Written;
 use wire::Cursor;
@@ -58,11 +58,11 @@ fn property(src: &[u8], text: &mut [u8], at: usize) -> usize {
 }
 
 pub fn read(d: Dataset, line: &mut [u8], rest: Rest, text: &mut [u8], at: usize) -> usize {
-    let data = rest.bytes(line);
-    if !data.rest.done(line) {
+    let data = rest.last_bytes(line);
+    if !data.ok {
         return print::unknown(text, at);
     }
-    let src = words::counted(line, data.start, data.count);
+    let src = slice::counted(line, data.start, data.count);
     match d {
         Dataset::Device => device(src, text, at),
         Dataset::Object => object(src, text, at),
@@ -89,12 +89,12 @@ pub fn tidy(
     at: usize,
 ) -> usize {
     let data = rest.bytes(line);
-    let size = data.rest.room(line);
-    if !size.rest.done(line) {
+    let room = data.rest.last_room(line);
+    if !room.ok {
         return print::unknown(text, at);
     }
-    let src = words::counted(line, data.start, data.count);
-    let page = print::page(out, size.v);
+    let src = slice::counted(line, data.start, data.count);
+    let page = print::page(out, room.size);
     let w = tidied(d, src, page);
     print::written(text, at, w, page)
 }

@@ -1,7 +1,7 @@
 // The fields of the datasets as they are printed, each with a space in front.
 use crate::print;
 use crate::show;
-use crate::words;
+use crate::slice;
 use wire::Cursor;
 use wire::DeviceInfo;
 use wire::Form;
@@ -131,7 +131,7 @@ fn values(text: &mut [u8], at: usize, src: &[u8], code: u16, count: u16) -> usiz
 }
 
 fn one(text: &mut [u8], at: usize, src: &[u8], code: u16, s: Slot) -> usize {
-    values(text, at, words::counted(src, s.start, s.len), code, 1)
+    values(text, at, slice::counted(src, s.start, s.len), code, 1)
 }
 
 fn form(text: &mut [u8], at: usize, src: &[u8], code: u16, f: Form) -> usize {
@@ -146,7 +146,7 @@ fn form(text: &mut [u8], at: usize, src: &[u8], code: u16, f: Form) -> usize {
         Form::List(s, count) => {
             let o = print::put_all(text, at, b" list");
             let a = print::word(text, o, print::wide16(count));
-            values(text, a, words::counted(src, s.start, s.len), code, count)
+            values(text, a, slice::counted(src, s.start, s.len), code, count)
         }
     }
 }

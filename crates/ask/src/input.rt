@@ -1,5 +1,5 @@
 // Standard input, block by block: the lines lie in one lent buffer, and what is left of the last is moved to its front.
-use crate::words;
+use crate::slice;
 
 const MOST_LINE: usize = 1200000;
 
@@ -17,7 +17,7 @@ pub fn room() -> [u8; 1265536] {
 // Reads once behind what is there, and answers the place after it all; the same place where nothing came.
 pub fn more(lines: &mut [u8], end: usize) -> usize {
     let size = lines.len();
-    let free = words::part_mut(lines, end, size);
+    let free = slice::part_mut(lines, end, size);
     let got = libc::read(0, free);
     let n = io::count(got, free);
     if end <= size {

@@ -1,6 +1,7 @@
 // The VALUE of `write-value`: an integer of its type, or `undef`.
-use crate::words;
-use crate::words::Parsed;
+use crate::number;
+use crate::number::Parsed;
+use crate::slice;
 use wire::Cursor;
 use wire::Integer;
 use wire::Pair;
@@ -24,27 +25,27 @@ const MOST: u64 = 0xFFFF_FFFF_FFFF_FFFF;
 fn signed(w: &[u8], half: u64) -> Parsed {
     if 0 < w.len() {
         if w[0] == b'-' {
-            let n = words::number(&w[1..], half);
+            let n = number::parse(&w[1..], half);
             return Parsed {
                 v: std::num::wrapping_sub_u64(0, n.v),
                 ok: n.ok,
             };
         }
     }
-    words::number(w, std::num::wrapping_sub_u64(half, 1))
+    number::parse(w, std::num::wrapping_sub_u64(half, 1))
 }
 
 // The bits of a number of a type of at most 64 bits.
 fn bits(code: u16, w: &[u8]) -> Parsed {
     match code {
         1 => signed(w, 0x80),
-        2 => words::number(w, 0xFF),
+        2 => number::parse(w, 0xFF),
         3 => signed(w, 0x8000),
-        4 => words::number(w, 0xFFFF),
+        4 => number::parse(w, 0xFFFF),
         5 => signed(w, 0x8000_0000),
-        6 => words::number(w, 0xFFFF_FFFF),
+        6 => number::parse(w, 0xFFFF_FFFF),
         7 => signed(w, 0x8000_0000_0000_0000),
-        _ => words::number(w, MOST),
+        _ => number::parse(w, MOST),
     }
 }
 
@@ -110,9 +111,9 @@ fn narrow_of(code: u16, w: &[u8]) -> Given {
 
 // HIGH:LOW.
 fn wide_of(code: u16, w: &[u8]) -> Given {
-    let colon = words::find(w, 0, b':');
-    let high = words::number(words::part(w, 0, colon), MOST);
-    let low = words::number(words::from(w, colon, 1), MOST);
+    let colon = slice::find(w, 0, b':');
+    let high = number::parse(slice::part(w, 0, colon), MOST);
+    let low = number::parse(slice::from(w, colon, 1), MOST);
     if !high.ok {
         return Given::Wrong;
     }
@@ -130,7 +131,7 @@ fn wide_of(code: u16, w: &[u8]) -> Given {
 }
 
 fn undef_of(w: &[u8]) -> Given {
-    if words::same(w, b"undef") {
+    if slice::same(w, b"undef") {
         return Given::Is(Integer::Undef);
     }
     Given::Wrong

@@ -2,7 +2,7 @@
 use crate::print;
 use crate::question::OfList;
 use crate::show;
-use crate::words;
+use crate::slice;
 use crate::words::Many;
 use crate::words::Rest;
 use wire::Chosen;
@@ -24,11 +24,11 @@ fn print_nth(src: &[u8], n: usize, text: &mut [u8], at: usize) -> usize {
 
 fn nth(line: &mut [u8], rest: Rest, text: &mut [u8], at: usize) -> usize {
     let n = rest.u64(line);
-    let data = n.rest.bytes(line);
-    if !data.rest.done(line) {
+    let data = n.rest.last_bytes(line);
+    if !data.ok {
         return print::unknown(text, at);
     }
-    print_nth(words::counted(line, data.start, data.count), n.v, text, at)
+    print_nth(slice::counted(line, data.start, data.count), n.v, text, at)
 }
 
 // How many steps there are before the end: no list has more than 65,535 values.
@@ -85,11 +85,11 @@ fn print_list(src: &[u8], text: &mut [u8], at: usize) -> usize {
 }
 
 fn list(line: &mut [u8], rest: Rest, text: &mut [u8], at: usize) -> usize {
-    let data = rest.bytes(line);
-    if !data.rest.done(line) {
+    let data = rest.last_bytes(line);
+    if !data.ok {
         return print::unknown(text, at);
     }
-    print_list(words::counted(line, data.start, data.count), text, at)
+    print_list(slice::counted(line, data.start, data.count), text, at)
 }
 
 fn print_step(src: &[u8], ty: u16, s: Step, text: &mut [u8], at: usize) -> usize {
@@ -113,7 +113,7 @@ fn step_words(line: &[u8], data: Many, text: &mut [u8], at: usize) -> usize {
     if !refusal.rest.done(line) {
         return print::unknown(text, at);
     }
-    let src = words::counted(line, data.start, data.count);
+    let src = slice::counted(line, data.start, data.count);
     let s = wire::step_at(src, ty.v, place.v, left.v, refusal.v);
     print_step(src, ty.v, s, text, at)
 }
@@ -140,12 +140,12 @@ fn print_newer<'a>(description: &'a [u8], payload: &'a [u8], text: &mut [u8], at
 
 fn newer(line: &mut [u8], rest: Rest, text: &mut [u8], at: usize) -> usize {
     let description = rest.bytes(line);
-    let payload = description.rest.bytes(line);
-    if !payload.rest.done(line) {
+    let payload = description.rest.last_bytes(line);
+    if !payload.ok {
         return print::unknown(text, at);
     }
-    let d = words::counted(line, description.start, description.count);
-    let p = words::counted(line, payload.start, payload.count);
+    let d = slice::counted(line, description.start, description.count);
+    let p = slice::counted(line, payload.start, payload.count);
     print_newer(d, p, text, at)
 }
 

@@ -6,11 +6,13 @@ mod input;
 mod integer;
 mod list;
 mod name;
+mod number;
 mod payload;
 mod print;
 mod question;
 mod record;
 mod show;
+mod slice;
 mod table;
 mod transaction;
 mod value;
@@ -30,12 +32,12 @@ fn out_room() -> [u8; 1048576] {
     [0u8; 1048576]
 }
 
-fn list16() -> [u16; 4096] {
+fn halves_room() -> [u16; 4096] {
     [0u16; 4096]
 }
 
 // For two lists of the most numbers that one may have.
-fn list32() -> [u32; 8192] {
+fn numbers_room() -> [u32; 8192] {
     [0u32; 8192]
 }
 
@@ -48,7 +50,7 @@ fn answer(
     at: usize,
 ) -> usize {
     let rest = words::first(line);
-    match question::question_of(words::part(line, 0, rest.at)) {
+    match question::question_of(slice::part(line, 0, rest.at)) {
         Question::Name(q) => name::answer(q, line, rest, text, at),
         Question::Value(q) => value::answer(q, line, rest, out, halves, text, at),
         Question::Read(d) => dataset::read(d, line, rest, text, at),
@@ -96,12 +98,12 @@ fn answer_lines(
     let mut is_long = held.is_long;
     let mut at: usize = 0;
     while seen < end {
-        let stop = words::find(words::part(lines, 0, end), seen, b'\n');
+        let stop = slice::find(slice::part(lines, 0, end), seen, b'\n');
         if end <= stop {
             return Done { start, is_long, at };
         }
         at = answer_line(
-            words::part_mut(lines, start, stop),
+            slice::part_mut(lines, start, stop),
             is_long,
             out,
             halves,
@@ -129,7 +131,7 @@ fn answer_last(
     let is_long = held.is_long;
     if is_long || 0 < end {
         let at = answer_line(
-            words::part_mut(lines, 0, end),
+            slice::part_mut(lines, 0, end),
             is_long,
             out,
             halves,
@@ -176,8 +178,8 @@ fn run(lines: &mut [u8], out: &mut [u8], halves: &mut [u16], numbers: &mut [u32]
 fn main() {
     let mut lines = input::room();
     let mut out = out_room();
-    let mut halves = list16();
-    let mut numbers = list32();
+    let mut halves = halves_room();
+    let mut numbers = numbers_room();
     let mut text = io::large_buffer();
     run(&mut lines, &mut out, &mut halves, &mut numbers, &mut text);
 }

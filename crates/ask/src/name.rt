@@ -1,7 +1,7 @@
 // response-name, command-name.
 use crate::print;
 use crate::question::OfName;
-use crate::words;
+use crate::slice;
 use crate::words::Rest;
 use names::Named;
 
@@ -9,7 +9,7 @@ fn named(text: &mut [u8], at: usize, n: Named, out: &[u8]) -> usize {
     match n {
         Named::Done(size) => {
             let o = print::put_all(text, at, b"ok ");
-            print::put_all(text, o, words::counted(out, 0, size))
+            print::put_all(text, o, slice::counted(out, 0, size))
         }
         Named::Nameless => print::put_all(text, at, b"none"),
         Named::Refused(f) => print::refused(text, at, f.no),

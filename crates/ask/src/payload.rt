@@ -3,7 +3,7 @@ use crate::fields;
 use crate::print;
 use crate::question::Payload;
 use crate::show;
-use crate::words;
+use crate::slice;
 use crate::words::Rest;
 use wire::ReadDevice;
 use wire::ReadObject;
@@ -62,11 +62,11 @@ fn object_info(src: &[u8], text: &mut [u8], at: usize) -> usize {
 }
 
 pub fn answer(q: Payload, line: &mut [u8], rest: Rest, text: &mut [u8], at: usize) -> usize {
-    let data = rest.bytes(line);
-    if !data.rest.done(line) {
+    let data = rest.last_bytes(line);
+    if !data.ok {
         return print::unknown(text, at);
     }
-    let src = words::counted(line, data.start, data.count);
+    let src = slice::counted(line, data.start, data.count);
     match q {
         Payload::Handles => numbers(src, session::object_handles(src), text, at),
         Payload::StorageIds => numbers(src, session::storage_ids(src), text, at),

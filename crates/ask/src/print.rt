@@ -1,6 +1,6 @@
 // The text of the answers: a lent buffer, and the place after what stands in it. A full buffer is written out and
 // begun again, so every function here takes the place and answers the next.
-use crate::words;
+use crate::slice;
 use layout::Written;
 
 const FILLING: u8 = 0xa5;
@@ -125,14 +125,14 @@ pub fn ok(text: &mut [u8], at: usize) -> usize {
 }
 
 pub fn flush(text: &[u8], at: usize) {
-    io::write_all(1, words::part(text, 0, at));
+    io::write_all(1, slice::part(text, 0, at));
 }
 
 pub fn unknown(text: &mut [u8], at: usize) -> usize {
     put(text, at, b'?')
 }
 
-fn wide8(x: u8) -> u64 {
+pub fn wide8(x: u8) -> u64 {
     x as u64
 }
 
@@ -151,7 +151,7 @@ pub fn refused(text: &mut [u8], at: usize, number: u8) -> usize {
 
 // The output for a writer, of so many bytes, filled.
 pub fn page(out: &mut [u8], size: usize) -> &mut [u8] {
-    let p = words::part_mut(out, 0, size);
+    let p = slice::part_mut(out, 0, size);
     fill(p);
     p
 }

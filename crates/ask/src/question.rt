@@ -1,5 +1,5 @@
 // The names of the questions, in the order of docs/ASK.md.
-use crate::words::same;
+use crate::slice::same;
 
 pub enum OfName {
     Response,

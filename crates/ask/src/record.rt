@@ -1,7 +1,7 @@
 // Recordings: record, write-record, listing.
 use crate::print;
 use crate::question::OfRecording;
-use crate::words;
+use crate::slice;
 use crate::words::Rest;
 use layout::Written;
 use listing::Tally;
@@ -37,12 +37,12 @@ fn print_record(r: Record, next: usize, text: &mut [u8], at: usize) -> usize {
 fn write(line: &mut [u8], rest: Rest, out: &mut [u8], text: &mut [u8], at: usize) -> usize {
     let kind = rest.u16(line);
     let data = kind.rest.bytes(line);
-    let size = data.rest.room(line);
-    if !size.rest.done(line) {
+    let room = data.rest.last_room(line);
+    if !room.ok {
         return print::unknown(text, at);
     }
-    let src = words::counted(line, data.start, data.count);
-    let page = print::page(out, size.v);
+    let src = slice::counted(line, data.start, data.count);
+    let page = print::page(out, room.size);
     let w = recording::write_record(kind.v, src, page);
     print::written(text, at, w, page)
 }
@@ -66,7 +66,7 @@ fn escaped(text: &mut [u8], at: usize, s: &[u8]) -> usize {
 
 fn escaped_writing(text: &mut [u8], at: usize, w: Written, out: &[u8]) -> usize {
     match w {
-        Written::Done(n) => escaped(text, at, words::counted(out, 0, n)),
+        Written::Done(n) => escaped(text, at, slice::counted(out, 0, n)),
         Written::Refused(f) => print::refused(text, at, f.no),
     }
 }
@@ -91,7 +91,7 @@ fn list_all(src: &[u8], out: &mut [u8], text: &mut [u8], at: usize) -> Shown {
         let done = listing::list_window(&src[from..], true, Tally { place, records }, out);
         let tally = done.tally;
         let next = behind(from, done.used, src.len());
-        o = escaped(text, o, words::counted(out, 0, done.written));
+        o = escaped(text, o, slice::counted(out, 0, done.written));
         place = tally.place;
         records = tally.records;
         if done.stopped {
@@ -132,11 +132,11 @@ fn read_or_list(
     text: &mut [u8],
     at: usize,
 ) -> usize {
-    let data = rest.bytes(line);
-    if !data.rest.done(line) {
+    let data = rest.last_bytes(line);
+    if !data.ok {
         return print::unknown(text, at);
     }
-    let src = words::counted(line, data.start, data.count);
+    let src = slice::counted(line, data.start, data.count);
     if let OfRecording::Listing = q {
         return list(src, out, text, at);
     }

@@ -4,9 +4,10 @@ use wire::Cursor;
 use wire::Pair;
 use wire::Part;
 use wire::ReadU16;
-use wire::ReadU32;
 use wire::ReadValue;
 use wire::Value;
+
+const UINT32: u16 = 0x0006;
 
 fn magnitude(z: i64) -> u64 {
     if z < 0 {
@@ -29,30 +30,6 @@ fn pair(text: &mut [u8], at: usize, p: Pair) -> usize {
     print::decimal(text, a, p.low)
 }
 
-// An array's u32 numbers as a list.
-pub fn numbers(text: &mut [u8], at: usize, src: &[u8], p: Part) -> usize {
-    let count = p.count;
-    if count == 0 {
-        return print::put(text, at, b'-');
-    }
-    let mut place = p.start;
-    let mut o = at;
-    let mut i: usize = 0;
-    while i < count {
-        let a = print::between(text, o, i, b',');
-        match (Cursor { at: place }).u32(src) {
-            ReadU32::Got(n, next) => {
-                o = print::decimal(text, a, print::wide32(n));
-                place = next.at;
-            }
-            // never: the array was read whole
-            ReadU32::Refused(f) => return print::refused(text, a, f.no),
-        }
-        i += 1;
-    }
-    o
-}
-
 // A value that is no array; an array is left out.
 fn single(text: &mut [u8], at: usize, src: &[u8], v: Value) -> usize {
     match v {
@@ -72,15 +49,15 @@ fn item_code(code: u16) -> u16 {
     code - 0x4000
 }
 
-pub fn items(text: &mut [u8], at: usize, src: &[u8], code: u16, p: Part) -> usize {
-    let kind = item_code(code);
+// So many values from a place on, none of them an array, joined by commas.
+fn row(text: &mut [u8], at: usize, src: &[u8], code: u16, p: Part) -> usize {
     let count = p.count;
     let mut place = p.start;
-    let mut o = print::put(text, at, b'[');
+    let mut o = at;
     let mut i: usize = 0;
     while i < count {
         let a = print::between(text, o, i, b',');
-        match (Cursor { at: place }).value(src, kind) {
+        match (Cursor { at: place }).value(src, code) {
             ReadValue::Got(v, next) => {
                 o = single(text, a, src, v);
                 place = next.at;
@@ -90,7 +67,21 @@ pub fn items(text: &mut [u8], at: usize, src: &[u8], code: u16, p: Part) -> usiz
         }
         i += 1;
     }
-    print::put(text, o, b']')
+    o
+}
+
+pub fn items(text: &mut [u8], at: usize, src: &[u8], code: u16, p: Part) -> usize {
+    let o = print::put(text, at, b'[');
+    let a = row(text, o, src, item_code(code), p);
+    print::put(text, a, b']')
+}
+
+// The items of an AUINT32 as a list of numbers.
+pub fn numbers(text: &mut [u8], at: usize, src: &[u8], p: Part) -> usize {
+    if p.count == 0 {
+        return print::put(text, at, b'-');
+    }
+    row(text, at, src, UINT32, p)
 }
 
 // Four hexadecimal digits.

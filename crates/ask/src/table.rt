@@ -1,7 +1,7 @@
 // The object table: walk, path, paths.
 use crate::print;
 use crate::question::OfTable;
-use crate::words;
+use crate::slice;
 use crate::words::MOST_NUMBERS;
 use crate::words::Rest;
 use layout::Written;
@@ -47,7 +47,7 @@ fn print_walk(
     }
     let places = order.places;
     let o = print::put_all(text, at, b"ok ");
-    print::list16(text, o, words::part16(&places, order.count))
+    print::list16(text, o, slice::part16(&places, order.count))
 }
 
 fn walk(
@@ -61,14 +61,14 @@ fn walk(
     if !n.rest.done(line) {
         return print::unknown(text, at);
     }
-    let handles = words::part32(numbers, 0, n.handles);
-    let parents = words::part16(halves, n.parents);
-    let ends = words::part32(numbers, MOST_NUMBERS, n.ends);
+    let handles = slice::part32(numbers, 0, n.handles);
+    let parents = slice::part16(halves, n.parents);
+    let ends = slice::part32(numbers, MOST_NUMBERS, n.ends);
     print_walk(
         handles,
         parents,
         ends,
-        words::counted(line, n.start, n.names),
+        slice::counted(line, n.start, n.names),
         text,
         at,
     )
@@ -84,19 +84,19 @@ fn path(
     at: usize,
 ) -> usize {
     let place = n.rest.u64(line);
-    let size = place.rest.room(line);
-    if !size.rest.done(line) {
+    let room = place.rest.last_room(line);
+    if !room.ok {
         return print::unknown(text, at);
     }
-    let handles = words::part32(numbers, 0, n.handles);
-    let parents = words::part16(halves, n.parents);
-    let ends = words::part32(numbers, MOST_NUMBERS, n.ends);
-    let page = print::page(out, size.v);
+    let handles = slice::part32(numbers, 0, n.handles);
+    let parents = slice::part16(halves, n.parents);
+    let ends = slice::part32(numbers, MOST_NUMBERS, n.ends);
+    let page = print::page(out, room.size);
     let w = tree::path(
         handles,
         parents,
         ends,
-        words::counted(line, n.start, n.names),
+        slice::counted(line, n.start, n.names),
         place.v,
         page,
     );
@@ -128,7 +128,7 @@ fn print_paths(
     at: usize,
 ) -> usize {
     let mut room = stops_room();
-    let stops = words::part32_mut(&mut room, 0, handles.len());
+    let stops = slice::part32_mut(&mut room, 0, handles.len());
     let w = tree::paths(handles, parents, ends, names, page, stops);
     all_written(text, at, w, page, stops)
 }
@@ -142,20 +142,20 @@ fn paths(
     text: &mut [u8],
     at: usize,
 ) -> usize {
-    let size = n.rest.room(line);
-    if !size.rest.done(line) {
+    let room = n.rest.last_room(line);
+    if !room.ok {
         return print::unknown(text, at);
     }
-    let handles = words::part32(numbers, 0, n.handles);
-    let parents = words::part16(halves, n.parents);
-    let ends = words::part32(numbers, MOST_NUMBERS, n.ends);
-    let names = words::counted(line, n.start, n.names);
+    let handles = slice::part32(numbers, 0, n.handles);
+    let parents = slice::part16(halves, n.parents);
+    let ends = slice::part32(numbers, MOST_NUMBERS, n.ends);
+    let names = slice::counted(line, n.start, n.names);
     print_paths(
         handles,
         parents,
         ends,
         names,
-        print::page(out, size.v),
+        print::page(out, room.size),
         text,
         at,
     )

@@ -1,10 +1,10 @@
 // Transactions: command, command-data, call, answer.
 use crate::print;
 use crate::question::OfSession;
-use crate::words;
+use crate::slice;
+use crate::slice::same;
 use crate::words::Many;
 use crate::words::Rest;
-use crate::words::same;
 use session::Found;
 use session::Made;
 use session::Session;
@@ -75,12 +75,12 @@ fn command(
     let state = rest.u32(line);
     let code = state.rest.u16(line);
     let params = code.rest.u32s(line, list, 0);
-    let size = params.rest.room(line);
-    if !size.rest.done(line) {
+    let room = params.rest.last_room(line);
+    if !room.ok {
         return print::unknown(text, at);
     }
-    let c = command_of(code.v, words::part32(list, 0, params.count));
-    let page = print::page(out, size.v);
+    let c = command_of(code.v, slice::part32(list, 0, params.count));
+    let page = print::page(out, room.size);
     let m = session::command(Session { number: state.v }, c, page);
     made(text, at, m, page)
 }
@@ -95,12 +95,12 @@ fn make_with_data(
     text: &mut [u8],
     at: usize,
 ) -> usize {
-    let size = data.rest.room(line);
-    if !size.rest.done(line) {
+    let room = data.rest.last_room(line);
+    if !room.ok {
         return print::unknown(text, at);
     }
-    let src = words::counted(line, data.start, data.count);
-    let page = print::page(out, size.v);
+    let src = slice::counted(line, data.start, data.count);
+    let page = print::page(out, room.size);
     let m = session::command_with_data(Session { number: state }, c, src, page);
     made(text, at, m, page)
 }
@@ -116,7 +116,7 @@ fn command_data(
     let state = rest.u32(line);
     let code = state.rest.u16(line);
     let params = code.rest.u32s(line, list, 0);
-    let c = command_of(code.v, words::part32(list, 0, params.count));
+    let c = command_of(code.v, slice::part32(list, 0, params.count));
     let data = params.rest.bytes(line);
     make_with_data(line, state.v, c, data, out, text, at)
 }
@@ -199,16 +199,16 @@ fn camera_call(line: &[u8], rest: Rest, out: &mut [u8], text: &mut [u8], at: usi
     let storage = state.rest.u32(line);
     let filter = storage.rest.u32(line);
     let handle = filter.rest.u32(line);
-    let size = handle.rest.room(line);
-    if !size.rest.done(line) {
+    let room = handle.rest.last_room(line);
+    if !room.ok {
         return print::unknown(text, at);
     }
-    let which = call_of(words::part(line, name.start, name.end));
+    let which = call_of(slice::part(line, name.start, name.end));
     if let Call::Unknown = which {
         return print::unknown(text, at);
     }
     let c = called(which, storage.v, filter.v, handle.v);
-    let page = print::page(out, size.v);
+    let page = print::page(out, room.size);
     let m = session::command(Session { number: state.v }, c, page);
     made(text, at, m, page)
 }
@@ -231,14 +231,14 @@ fn found(text: &mut [u8], at: usize, f: Found) -> usize {
 
 fn find(line: &mut [u8], rest: Rest, text: &mut [u8], at: usize) -> usize {
     let number = rest.u32(line);
-    let data = number.rest.bytes(line);
-    if !data.rest.done(line) {
+    let data = number.rest.last_bytes(line);
+    if !data.ok {
         return print::unknown(text, at);
     }
     found(
         text,
         at,
-        session::find_answer(words::counted(line, data.start, data.count), number.v),
+        session::find_answer(slice::counted(line, data.start, data.count), number.v),
     )
 }
 

@@ -4,7 +4,7 @@ use crate::integer::Given;
 use crate::print;
 use crate::question::OfValue;
 use crate::show;
-use crate::words;
+use crate::slice;
 use crate::words::Rest;
 use wire::Cursor;
 use wire::ReadU16;
@@ -14,11 +14,11 @@ use wire::Span;
 fn value(line: &mut [u8], rest: Rest, text: &mut [u8], at: usize) -> usize {
     let code = rest.u16(line);
     let place = code.rest.u64(line);
-    let data = place.rest.bytes(line);
-    if !data.rest.done(line) {
+    let data = place.rest.last_bytes(line);
+    if !data.ok {
         return print::unknown(text, at);
     }
-    let src = words::counted(line, data.start, data.count);
+    let src = slice::counted(line, data.start, data.count);
     match (Cursor { at: place.v }).value(src, code.v) {
         ReadValue::Got(v, next) => {
             let o = print::ok(text, at);
@@ -31,11 +31,11 @@ fn value(line: &mut [u8], rest: Rest, text: &mut [u8], at: usize) -> usize {
 
 fn end(line: &mut [u8], rest: Rest, text: &mut [u8], at: usize) -> usize {
     let place = rest.u64(line);
-    let data = place.rest.bytes(line);
-    if !data.rest.done(line) {
+    let data = place.rest.last_bytes(line);
+    if !data.ok {
         return print::unknown(text, at);
     }
-    let src = words::counted(line, data.start, data.count);
+    let src = slice::counted(line, data.start, data.count);
     match (Cursor { at: place.v }).end(src) {
         Span::Till(_) => print::ok(text, at),
         Span::Refused(f) => print::refused(text, at, f.no),
@@ -45,11 +45,11 @@ fn end(line: &mut [u8], rest: Rest, text: &mut [u8], at: usize) -> usize {
 fn unit(line: &mut [u8], rest: Rest, text: &mut [u8], at: usize) -> usize {
     let n = rest.u64(line);
     let place = n.rest.u64(line);
-    let data = place.rest.bytes(line);
-    if !data.rest.done(line) {
+    let data = place.rest.last_bytes(line);
+    if !data.ok {
         return print::unknown(text, at);
     }
-    let src = words::counted(line, data.start, data.count);
+    let src = slice::counted(line, data.start, data.count);
     match (Cursor { at: place.v }).unit(src, n.v) {
         ReadU16::Got(u, _) => {
             let o = print::ok(text, at);
@@ -63,11 +63,11 @@ fn item(line: &mut [u8], rest: Rest, text: &mut [u8], at: usize) -> usize {
     let code = rest.u16(line);
     let n = code.rest.u64(line);
     let place = n.rest.u64(line);
-    let data = place.rest.bytes(line);
-    if !data.rest.done(line) {
+    let data = place.rest.last_bytes(line);
+    if !data.ok {
         return print::unknown(text, at);
     }
-    let src = words::counted(line, data.start, data.count);
+    let src = slice::counted(line, data.start, data.count);
     match (Cursor { at: place.v }).item(src, code.v, n.v) {
         ReadValue::Got(v, _) => {
             let o = print::ok(text, at);
@@ -80,12 +80,12 @@ fn item(line: &mut [u8], rest: Rest, text: &mut [u8], at: usize) -> usize {
 fn utf8(line: &mut [u8], rest: Rest, out: &mut [u8], text: &mut [u8], at: usize) -> usize {
     let place = rest.u64(line);
     let data = place.rest.bytes(line);
-    let size = data.rest.room(line);
-    if !size.rest.done(line) {
+    let room = data.rest.last_room(line);
+    if !room.ok {
         return print::unknown(text, at);
     }
-    let src = words::counted(line, data.start, data.count);
-    let page = print::page(out, size.v);
+    let src = slice::counted(line, data.start, data.count);
+    let page = print::page(out, room.size);
     let w = (Cursor { at: place.v }).utf8(src, page);
     print::written(text, at, w, page)
 }
@@ -93,13 +93,13 @@ fn utf8(line: &mut [u8], rest: Rest, out: &mut [u8], text: &mut [u8], at: usize)
 fn write_value(line: &[u8], rest: Rest, out: &mut [u8], text: &mut [u8], at: usize) -> usize {
     let code = rest.u16(line);
     let w = code.rest.word(line);
-    let size = w.rest.room(line);
-    if !size.rest.done(line) {
+    let room = w.rest.last_room(line);
+    if !room.ok {
         return print::unknown(text, at);
     }
-    match integer::integer_of(code.v, words::part(line, w.start, w.end)) {
+    match integer::integer_of(code.v, slice::part(line, w.start, w.end)) {
         Given::Is(v) => {
-            let page = print::page(out, size.v);
+            let page = print::page(out, room.size);
             let r = wire::write_integer(v, page);
             print::written(text, at, r, page)
         }
@@ -116,24 +116,24 @@ fn write_string(
     at: usize,
 ) -> usize {
     let units = rest.u16s(line, list);
-    let size = units.rest.room(line);
-    if !size.rest.done(line) {
+    let room = units.rest.last_room(line);
+    if !room.ok {
         return print::unknown(text, at);
     }
-    let page = print::page(out, size.v);
-    let w = wire::write_text(words::part16(list, units.count), page);
+    let page = print::page(out, room.size);
+    let w = wire::write_text(slice::part16(list, units.count), page);
     print::written(text, at, w, page)
 }
 
 fn write_array(line: &mut [u8], rest: Rest, out: &mut [u8], text: &mut [u8], at: usize) -> usize {
     let code = rest.u16(line);
     let data = code.rest.bytes(line);
-    let size = data.rest.room(line);
-    if !size.rest.done(line) {
+    let room = data.rest.last_room(line);
+    if !room.ok {
         return print::unknown(text, at);
     }
-    let src = words::counted(line, data.start, data.count);
-    let page = print::page(out, size.v);
+    let src = slice::counted(line, data.start, data.count);
+    let page = print::page(out, room.size);
     let w = wire::write_array(code.v, src, page);
     print::written(text, at, w, page)
 }
@@ -141,12 +141,12 @@ fn write_array(line: &mut [u8], rest: Rest, out: &mut [u8], text: &mut [u8], at:
 fn tidy_value(line: &mut [u8], rest: Rest, out: &mut [u8], text: &mut [u8], at: usize) -> usize {
     let code = rest.u16(line);
     let data = code.rest.bytes(line);
-    let size = data.rest.room(line);
-    if !size.rest.done(line) {
+    let room = data.rest.last_room(line);
+    if !room.ok {
         return print::unknown(text, at);
     }
-    let src = words::counted(line, data.start, data.count);
-    let page = print::page(out, size.v);
+    let src = slice::counted(line, data.start, data.count);
+    let page = print::page(out, room.size);
     let w = wire::tidy_value(code.v, src, page);
     print::written(text, at, w, page)
 }

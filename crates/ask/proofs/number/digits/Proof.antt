@@ -1,9 +1,9 @@
--- `ask::words::digits` ends: what is left falls. Assumes nothing.
+-- `ask::number::digits` ends: what is left falls. Assumes nothing.
 use Prim.Native.Nat.{_-_}
 use lib.ListN.{length}
 use borrow.Author.Needs.{needs}
-use Rattle.ask.proofs.words.digits.Statement.{statement}
-use Rattle.ask.proofs.words.digits.Tie as tie
+use Rattle.ask.proofs.number.digits.Statement.{statement}
+use Rattle.ask.proofs.number.digits.Tie as tie
 
 abbrev Inv-loop : tie.InvT-loop
 Inv-loop w from is-hex v₀ i₀ v i = Unit {0}

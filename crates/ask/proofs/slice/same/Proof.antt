@@ -1,10 +1,10 @@
--- `ask::words::same` ends: what is left falls. Assumes nothing.
+-- `ask::slice::same` ends: what is left falls. Assumes nothing.
 use mathlib.Core.Path.{_≡_}
 use Prim.Native.Nat.{_≤_, _-_}
 use lib.ListN.{length}
 use borrow.Author.Needs.{needs}
-use Rattle.ask.proofs.words.same.Statement.{statement}
-use Rattle.ask.proofs.words.same.Tie as tie
+use Rattle.ask.proofs.slice.same.Statement.{statement}
+use Rattle.ask.proofs.slice.same.Tie as tie
 
 abbrev Inv-loop : tie.InvT-loop
 Inv-loop a b i₀ i = (i ≤ length a) × (length a ≡ length b)

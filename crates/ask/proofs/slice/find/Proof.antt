@@ -1,9 +1,9 @@
--- `ask::words::find` ends: what is left falls. Assumes nothing.
+-- `ask::slice::find` ends: what is left falls. Assumes nothing.
 use Prim.Native.Nat.{_≤_, _-_}
 use lib.ListN.{length}
 use borrow.Author.Needs.{needs}
-use Rattle.ask.proofs.words.find.Statement.{statement}
-use Rattle.ask.proofs.words.find.Tie as tie
+use Rattle.ask.proofs.slice.find.Statement.{statement}
+use Rattle.ask.proofs.slice.find.Tie as tie
 
 abbrev Inv-loop : tie.InvT-loop
 Inv-loop s from b i₀ i = from ≤ i
