@@ -1,0 +1,4 @@
+pub mod Answered
+pub mod Rows
+pub mod Sent
+pub mod Walked

@@ -1,0 +1,30 @@
+// What every exported function answers, and how it gives its numbers.
+ghost use mathlib.Core.Path.{_≡_};
+ghost use Rattle.layout.specs.Written.{Wrote, says, saysWritten};
+ghost use Rattle.abi.specs.Answered.{word};
+use layout::Written;
+
+// How many were given; or minus the refusal's number, as a machine word has it.
+pub fn told(w: Written) -> u64
+    ensures { λ r. ⌜ r ≡ word (saysWritten w) ⌝ }
+{
+    match w {
+        Written::Done(n) => n as u64,
+        Written::Refused(f) => std::num::wrapping_sub_u64(0, f.no as u64),
+    }
+}
+
+// These numbers at the front of what was lent; 9 where it is shorter.
+pub fn give(row: &[u64], out: &mut [u64]) -> Written
+    ensures { λ r. ⌜ Wrote (says (now (row .entry))) (now (out .entry)) (saysWritten r) (now (out .exit)) ⌝ }
+{
+    if out.len() < row.len() {
+        return Written::Refused(layout::plain(9));
+    }
+    let mut i: usize = 0;
+    while i < row.len() {
+        out[i] = row[i];
+        i += 1;
+    }
+    Written::Done(i)
+}

@@ -1,0 +1,192 @@
+// The four datasets: the length taken, then their fields in order, a part as its start and its count of units or items.
+use crate::answer;
+use layout::Written;
+use wire::Cursor;
+use wire::DeviceInfo;
+use wire::Form;
+use wire::ObjectInfo;
+use wire::PropInfo;
+use wire::ReadDevice;
+use wire::ReadObject;
+use wire::ReadProperty;
+use wire::ReadStorage;
+use wire::StorageInfo;
+
+fn wide16(x: u16) -> u64 {
+    x as u64
+}
+
+fn wide32(x: u32) -> u64 {
+    x as u64
+}
+
+fn device_row(x: DeviceInfo, len: usize) -> [u64; 25] {
+    [
+        len as u64,
+        x.version as u64,
+        x.vendor_ex_id as u64,
+        x.vendor_ex_version as u64,
+        x.vendor_extension_desc.start as u64,
+        x.vendor_extension_desc.count as u64,
+        x.functional_mode as u64,
+        x.operations_supported.start as u64,
+        x.operations_supported.count as u64,
+        x.events_supported.start as u64,
+        x.events_supported.count as u64,
+        x.device_properties_supported.start as u64,
+        x.device_properties_supported.count as u64,
+        x.capture_formats.start as u64,
+        x.capture_formats.count as u64,
+        x.image_formats.start as u64,
+        x.image_formats.count as u64,
+        x.manufacturer.start as u64,
+        x.manufacturer.count as u64,
+        x.model.start as u64,
+        x.model.count as u64,
+        x.device_version.start as u64,
+        x.device_version.count as u64,
+        x.serial_number.start as u64,
+        x.serial_number.count as u64,
+    ]
+}
+
+fn give_device(s: &[u8], out: &mut [u64]) -> Written {
+    match wire::device_info(s, Cursor { at: 0 }) {
+        ReadDevice::Got(x, next) => answer::give(&device_row(x, next.at), out),
+        ReadDevice::Refused(f) => Written::Refused(f),
+    }
+}
+
+#[no_mangle]
+pub extern "C" fn ptp_device_info(s: &[u8], out: &mut [u64]) -> u64 {
+    answer::told(give_device(s, out))
+}
+
+fn object_row(x: ObjectInfo, len: usize) -> [u64; 24] {
+    [
+        len as u64,
+        wide32(x.storage_id),
+        wide16(x.object_format),
+        wide16(x.protection_status),
+        wide32(x.object_compressed_size),
+        wide16(x.thumb_format),
+        wide32(x.thumb_compressed_size),
+        wide32(x.thumb_pix_width),
+        wide32(x.thumb_pix_height),
+        wide32(x.image_pix_width),
+        wide32(x.image_pix_height),
+        wide32(x.image_bit_depth),
+        wide32(x.parent_object),
+        wide16(x.association_type),
+        wide32(x.association_desc),
+        wide32(x.sequence_number),
+        x.filename.start as u64,
+        x.filename.count as u64,
+        x.capture_date.start as u64,
+        x.capture_date.count as u64,
+        x.modification_date.start as u64,
+        x.modification_date.count as u64,
+        x.keywords.start as u64,
+        x.keywords.count as u64,
+    ]
+}
+
+fn give_object(s: &[u8], out: &mut [u64]) -> Written {
+    match wire::object_info(s, Cursor { at: 0 }) {
+        ReadObject::Got(x, next) => answer::give(&object_row(x, next.at), out),
+        ReadObject::Refused(f) => Written::Refused(f),
+    }
+}
+
+#[no_mangle]
+pub extern "C" fn ptp_object_info(s: &[u8], out: &mut [u64]) -> u64 {
+    answer::told(give_object(s, out))
+}
+
+fn storage_row(x: StorageInfo, len: usize) -> [u64; 11] {
+    [
+        len as u64,
+        x.storage_type as u64,
+        x.filesystem_type as u64,
+        x.access_capability as u64,
+        x.max_capacity,
+        x.free_space_in_bytes,
+        x.free_space_in_images as u64,
+        x.storage_description.start as u64,
+        x.storage_description.count as u64,
+        x.volume_label.start as u64,
+        x.volume_label.count as u64,
+    ]
+}
+
+fn give_storage(s: &[u8], out: &mut [u64]) -> Written {
+    match wire::storage_info(s, Cursor { at: 0 }) {
+        ReadStorage::Got(x, next) => answer::give(&storage_row(x, next.at), out),
+        ReadStorage::Refused(f) => Written::Refused(f),
+    }
+}
+
+#[no_mangle]
+pub extern "C" fn ptp_storage_info(s: &[u8], out: &mut [u64]) -> u64 {
+    answer::told(give_storage(s, out))
+}
+
+// The form, and three parts: those of a range; or a list's bytes and the count of its values.
+fn form_row(f: Form) -> [u64; 7] {
+    match f {
+        Form::Absent => [0, 0, 0, 0, 0, 0, 0],
+        Form::Range(low, high, step) => [
+            1,
+            low.start as u64,
+            low.len as u64,
+            high.start as u64,
+            high.len as u64,
+            step.start as u64,
+            step.len as u64,
+        ],
+        Form::List(all, count) => [
+            2,
+            all.start as u64,
+            all.len as u64,
+            count as u64,
+            0,
+            0,
+            0,
+        ],
+    }
+}
+
+fn prop_row(x: PropInfo, len: usize) -> [u64; 16] {
+    let form = x.form;
+    let f = form_row(form);
+    [
+        len as u64,
+        x.property_code as u64,
+        x.data_type as u64,
+        x.get_set as u64,
+        x.is_enable as u64,
+        x.factory_default.start as u64,
+        x.factory_default.len as u64,
+        x.current.start as u64,
+        x.current.len as u64,
+        f[0],
+        f[1],
+        f[2],
+        f[3],
+        f[4],
+        f[5],
+        f[6],
+    ]
+}
+
+fn give_prop(s: &[u8], out: &mut [u64]) -> Written {
+    match wire::property_info(s, Cursor { at: 0 }) {
+        ReadProperty::Got(x, next) => answer::give(&prop_row(x, next.at), out),
+        ReadProperty::Refused(f) => Written::Refused(f),
+    }
+}
+
+#[no_mangle]
+pub extern "C" fn ptp_prop_info(s: &[u8], out: &mut [u64]) -> u64 {
+    answer::told(give_prop(s, out))
+}

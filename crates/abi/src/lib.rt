@@ -1,0 +1,11 @@
+// What a controller calls from C or Rust: numbers and slices only. ptp.h says the same in C.
+// Each function answers how many numbers or bytes it gave, or minus the number of its refusal. What is right is in specs/.
+mod answer;
+mod dataset;
+mod object_table;
+mod panel;
+mod record;
+mod transaction;
+
+pub use answer::give;
+pub use answer::told;

@@ -1,0 +1,33 @@
+// What the panel asks of a property's description: a value of its list, the newer value, the tidy spelling.
+use crate::answer;
+use layout::Written;
+use wire::ReadNth;
+
+fn give_value(s: &[u8], n: usize, out: &mut [u64]) -> Written {
+    match wire::nth(s, n) {
+        ReadNth::Got(_, p, next) => answer::give(&[next.at as u64, p.start as u64, p.len as u64], out),
+        ReadNth::Refused(f) => Written::Refused(f),
+    }
+}
+
+// Of the n-th value, from 0: the place after it, and its start and length.
+#[no_mangle]
+pub extern "C" fn ptp_list_value(s: &[u8], n: usize, out: &mut [u64]) -> u64 {
+    answer::told(give_value(s, n, out))
+}
+
+fn give_newer(description: &[u8], payload: &[u8], out: &mut [u64]) -> Written {
+    let c = wire::newer_place(description, payload);
+    answer::give(&[c.of_payload as u64, c.start as u64, c.len as u64], out)
+}
+
+// Whether it is a part of the payload, and its start and length.
+#[no_mangle]
+pub extern "C" fn ptp_newer_value(description: &[u8], payload: &[u8], out: &mut [u64]) -> u64 {
+    answer::told(give_newer(description, payload, out))
+}
+
+#[no_mangle]
+pub extern "C" fn ptp_tidy_property(s: &[u8], out: &mut [u8]) -> u64 {
+    answer::told(wire::tidy_property(s, out))
+}

@@ -1,0 +1,70 @@
+// A command made, and its answer found.
+use crate::answer;
+use layout::Written;
+use session::Found;
+use session::Made;
+use session::Session;
+use wire::Command;
+
+fn param(params: &[u32], i: usize) -> u32 {
+    if i < params.len() { params[i] } else { 0 }
+}
+
+fn command_of(code: u16, params: &[u32]) -> Command {
+    Command {
+        code,
+        params: [
+            param(params, 0),
+            param(params, 1),
+            param(params, 2),
+            param(params, 3),
+            param(params, 4),
+        ],
+        count: params.len(),
+    }
+}
+
+fn made(number: u32, code: u16, params: &[u32], data: &[u8], with_data: bool, out: &mut [u8]) -> Made {
+    let session = Session { number };
+    if with_data {
+        return session::command_with_data(session, command_of(code, params), data, out);
+    }
+    session::command(session, command_of(code, params), out)
+}
+
+// The command, with its data behind it where it has any; `number` is the session's, and is the next one's after success.
+#[no_mangle]
+pub extern "C" fn ptp_command(
+    number: &mut u32,
+    code: u16,
+    params: &[u32],
+    data: &[u8],
+    with_data: bool,
+    out: &mut [u8],
+) -> u64 {
+    match made(*number, code, params, data, with_data, out) {
+        Made::Done {
+            number: _,
+            next,
+            count,
+        } => {
+            *number = next.number;
+            answer::told(Written::Done(count))
+        }
+        Made::Refused(f) => answer::told(Written::Refused(f)),
+    }
+}
+
+fn give_answer(s: &[u8], number: u32, out: &mut [u64]) -> Written {
+    match session::find_answer(s, number) {
+        Found::Payload(p, next) => answer::give(&[next.at as u64, 0x2001, p.start as u64, p.count as u64], out),
+        Found::Response(code, next) => answer::give(&[next.at as u64, code as u64, 0, 0], out),
+        Found::Refused(f) => Written::Refused(f),
+    }
+}
+
+// The place after the Response, its code, and the start and length of the last Data payload.
+#[no_mangle]
+pub extern "C" fn ptp_find_answer(s: &[u8], number: u32, out: &mut [u64]) -> u64 {
+    answer::told(give_answer(s, number, out))
+}
