@@ -1,4 +1,13 @@
 // The four datasets: the length taken, then their fields in order, a part as its start and its count of units or items.
+ghost use mathlib.Core.Path.{_≡_};
+ghost use mathlib.Core.List.{_∷_};
+ghost use Rattle.layout.specs.Written.{Wrote, saysWritten};
+ghost use Rattle.wire.specs.Device.{deviceAt};
+ghost use Rattle.wire.specs.Object.{objectAt};
+ghost use Rattle.wire.specs.Property.{propertyAt};
+ghost use Rattle.wire.specs.Storage.{storageAt};
+ghost use Rattle.abi.specs.Answered.{Gives, given};
+ghost use Rattle.abi.specs.Rows.{deviceRow, objectRow, storageRow, formRow, propRow};
 use crate::answer;
 use layout::Written;
 use wire::Cursor;
@@ -12,15 +21,21 @@ use wire::ReadProperty;
 use wire::ReadStorage;
 use wire::StorageInfo;
 
-fn wide16(x: u16) -> u64 {
+fn wide16(x: u16) -> u64
+    ensures { λ r. ⌜ r ≡ x ⌝ }
+{
     x as u64
 }
 
-fn wide32(x: u32) -> u64 {
+fn wide32(x: u32) -> u64
+    ensures { λ r. ⌜ r ≡ x ⌝ }
+{
     x as u64
 }
 
-fn device_row(x: DeviceInfo, len: usize) -> [u64; 25] {
+fn device_row(x: DeviceInfo, len: usize) -> [u64; 25]
+    ensures { λ r. ⌜ r ≡ len ∷ deviceRow x ⌝ }
+{
     [
         len as u64,
         x.version as u64,
@@ -50,7 +65,9 @@ fn device_row(x: DeviceInfo, len: usize) -> [u64; 25] {
     ]
 }
 
-fn give_device(s: &[u8], out: &mut [u64]) -> Written {
+fn give_device(s: &[u8], out: &mut [u64]) -> Written
+    ensures { λ r. ⌜ Wrote (given deviceRow (deviceAt (now (s .entry)) 0)) (now (out .entry)) (saysWritten r) (now (out .exit)) ⌝ }
+{
     match wire::device_info(s, Cursor { at: 0 }) {
         ReadDevice::Got(x, next) => answer::give(&device_row(x, next.at), out),
         ReadDevice::Refused(f) => Written::Refused(f),
@@ -58,11 +75,15 @@ fn give_device(s: &[u8], out: &mut [u64]) -> Written {
 }
 
 #[no_mangle]
-pub extern "C" fn ptp_device_info(s: &[u8], out: &mut [u64]) -> u64 {
+pub extern "C" fn ptp_device_info(s: &[u8], out: &mut [u64]) -> u64
+    ensures { λ r. ⌜ Gives (given deviceRow (deviceAt (now (s .entry)) 0)) (now (out .entry)) r (now (out .exit)) ⌝ }
+{
     answer::told(give_device(s, out))
 }
 
-fn object_row(x: ObjectInfo, len: usize) -> [u64; 24] {
+fn object_row(x: ObjectInfo, len: usize) -> [u64; 24]
+    ensures { λ r. ⌜ r ≡ len ∷ objectRow x ⌝ }
+{
     [
         len as u64,
         wide32(x.storage_id),
@@ -91,7 +112,9 @@ fn object_row(x: ObjectInfo, len: usize) -> [u64; 24] {
     ]
 }
 
-fn give_object(s: &[u8], out: &mut [u64]) -> Written {
+fn give_object(s: &[u8], out: &mut [u64]) -> Written
+    ensures { λ r. ⌜ Wrote (given objectRow (objectAt (now (s .entry)) 0)) (now (out .entry)) (saysWritten r) (now (out .exit)) ⌝ }
+{
     match wire::object_info(s, Cursor { at: 0 }) {
         ReadObject::Got(x, next) => answer::give(&object_row(x, next.at), out),
         ReadObject::Refused(f) => Written::Refused(f),
@@ -99,11 +122,15 @@ fn give_object(s: &[u8], out: &mut [u64]) -> Written {
 }
 
 #[no_mangle]
-pub extern "C" fn ptp_object_info(s: &[u8], out: &mut [u64]) -> u64 {
+pub extern "C" fn ptp_object_info(s: &[u8], out: &mut [u64]) -> u64
+    ensures { λ r. ⌜ Gives (given objectRow (objectAt (now (s .entry)) 0)) (now (out .entry)) r (now (out .exit)) ⌝ }
+{
     answer::told(give_object(s, out))
 }
 
-fn storage_row(x: StorageInfo, len: usize) -> [u64; 11] {
+fn storage_row(x: StorageInfo, len: usize) -> [u64; 11]
+    ensures { λ r. ⌜ r ≡ len ∷ storageRow x ⌝ }
+{
     [
         len as u64,
         x.storage_type as u64,
@@ -119,7 +146,9 @@ fn storage_row(x: StorageInfo, len: usize) -> [u64; 11] {
     ]
 }
 
-fn give_storage(s: &[u8], out: &mut [u64]) -> Written {
+fn give_storage(s: &[u8], out: &mut [u64]) -> Written
+    ensures { λ r. ⌜ Wrote (given storageRow (storageAt (now (s .entry)) 0)) (now (out .entry)) (saysWritten r) (now (out .exit)) ⌝ }
+{
     match wire::storage_info(s, Cursor { at: 0 }) {
         ReadStorage::Got(x, next) => answer::give(&storage_row(x, next.at), out),
         ReadStorage::Refused(f) => Written::Refused(f),
@@ -127,12 +156,16 @@ fn give_storage(s: &[u8], out: &mut [u64]) -> Written {
 }
 
 #[no_mangle]
-pub extern "C" fn ptp_storage_info(s: &[u8], out: &mut [u64]) -> u64 {
+pub extern "C" fn ptp_storage_info(s: &[u8], out: &mut [u64]) -> u64
+    ensures { λ r. ⌜ Gives (given storageRow (storageAt (now (s .entry)) 0)) (now (out .entry)) r (now (out .exit)) ⌝ }
+{
     answer::told(give_storage(s, out))
 }
 
 // The form, and three parts: those of a range; or a list's bytes and the count of its values.
-fn form_row(f: Form) -> [u64; 7] {
+fn form_row(f: Form) -> [u64; 7]
+    ensures { λ r. ⌜ r ≡ formRow f ⌝ }
+{
     match f {
         Form::Absent => [0, 0, 0, 0, 0, 0, 0],
         Form::Range(low, high, step) => [
@@ -156,7 +189,9 @@ fn form_row(f: Form) -> [u64; 7] {
     }
 }
 
-fn prop_row(x: PropInfo, len: usize) -> [u64; 16] {
+fn prop_row(x: PropInfo, len: usize) -> [u64; 16]
+    ensures { λ r. ⌜ r ≡ len ∷ propRow x ⌝ }
+{
     let form = x.form;
     let f = form_row(form);
     [
@@ -179,7 +214,9 @@ fn prop_row(x: PropInfo, len: usize) -> [u64; 16] {
     ]
 }
 
-fn give_prop(s: &[u8], out: &mut [u64]) -> Written {
+fn give_prop(s: &[u8], out: &mut [u64]) -> Written
+    ensures { λ r. ⌜ Wrote (given propRow (propertyAt (now (s .entry)) 0)) (now (out .entry)) (saysWritten r) (now (out .exit)) ⌝ }
+{
     match wire::property_info(s, Cursor { at: 0 }) {
         ReadProperty::Got(x, next) => answer::give(&prop_row(x, next.at), out),
         ReadProperty::Refused(f) => Written::Refused(f),
@@ -187,6 +224,8 @@ fn give_prop(s: &[u8], out: &mut [u64]) -> Written {
 }
 
 #[no_mangle]
-pub extern "C" fn ptp_prop_info(s: &[u8], out: &mut [u64]) -> u64 {
+pub extern "C" fn ptp_prop_info(s: &[u8], out: &mut [u64]) -> u64
+    ensures { λ r. ⌜ Gives (given propRow (propertyAt (now (s .entry)) 0)) (now (out .entry)) r (now (out .exit)) ⌝ }
+{
     answer::told(give_prop(s, out))
 }

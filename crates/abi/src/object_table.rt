@@ -1,5 +1,22 @@
 // The walk of an object table, and all paths in its order.
+ghost use Rattle.tree.specs.Path.{Walked, AllPaths};
+ghost use Rattle.tree.specs.Table.{table};
+ghost use Rattle.abi.specs.Answered.{Tells};
 use crate::answer;
+
+// The places in walk order.
+#[no_mangle]
+pub extern "C" fn ptp_walk(
+    handles: &[u32],
+    parents: &[u16],
+    ends: &[u32],
+    names: &[u8],
+    places: &mut [u16],
+) -> u64
+    ensures { λ r. ⌜ Tells (λ a. Walked (table (now (handles .entry)) (now (parents .entry)) (now (ends .entry)) (now (names .entry))) (now (places .entry)) a (now (places .exit))) r ⌝ }
+{
+    answer::told(tree::walk_into(handles, parents, ends, names, places))
+}
 
 // All paths in walk order, end to end, and the end of each.
 #[no_mangle]
@@ -10,6 +27,8 @@ pub extern "C" fn ptp_paths(
     names: &[u8],
     out: &mut [u8],
     out_ends: &mut [u32],
-) -> u64 {
+) -> u64
+    ensures { λ r. ⌜ Tells (λ a. AllPaths (table (now (handles .entry)) (now (parents .entry)) (now (ends .entry)) (now (names .entry))) (now (out .entry)) (now («out_ends» .entry)) a (now (out .exit)) (now («out_ends» .exit))) r ⌝ }
+{
     answer::told(tree::paths(handles, parents, ends, names, out, out_ends))
 }

@@ -1,11 +1,19 @@
 // A record of a recording.
+ghost use mathlib.Core.Path.{_≡_};
+ghost use mathlib.Core.List.{_∷_};
+ghost use Rattle.layout.specs.Written.{Wrote, saysWritten};
+ghost use Rattle.recording.specs.Record.{recordOf};
+ghost use Rattle.abi.specs.Answered.{Gives, given};
+ghost use Rattle.abi.specs.Rows.{contentRow, recordRow};
 use crate::answer;
 use layout::Written;
 use recording::Content;
 use recording::ReadRecord;
 use recording::Record;
 
-fn content_row(c: Content) -> [u64; 5] {
+fn content_row(c: Content) -> [u64; 5]
+    ensures { λ r. ⌜ r ≡ contentRow c ⌝ }
+{
     match c {
         Content::Note => [0, 0, 0, 0, 0],
         Content::Holds(x) => [
@@ -18,7 +26,9 @@ fn content_row(c: Content) -> [u64; 5] {
     }
 }
 
-fn record_row(x: Record, len: usize) -> [u64; 9] {
+fn record_row(x: Record, len: usize) -> [u64; 9]
+    ensures { λ r. ⌜ r ≡ len ∷ recordRow x ⌝ }
+{
     let content = x.content;
     let c = content_row(content);
     [
@@ -34,7 +44,9 @@ fn record_row(x: Record, len: usize) -> [u64; 9] {
     ]
 }
 
-fn give_record(s: &[u8], out: &mut [u64]) -> Written {
+fn give_record(s: &[u8], out: &mut [u64]) -> Written
+    ensures { λ r. ⌜ Wrote (given recordRow (recordOf (now (s .entry)))) (now (out .entry)) (saysWritten r) (now (out .exit)) ⌝ }
+{
     match recording::read_record(s) {
         ReadRecord::Got(x, next) => answer::give(&record_row(x, next.at), out),
         ReadRecord::Refused(f) => Written::Refused(f),
@@ -43,6 +55,8 @@ fn give_record(s: &[u8], out: &mut [u64]) -> Written {
 
 // The length taken, the record's kind, its body; then its container's kind, code, number and payload, all 0 for a note.
 #[no_mangle]
-pub extern "C" fn ptp_read_record(s: &[u8], out: &mut [u64]) -> u64 {
+pub extern "C" fn ptp_read_record(s: &[u8], out: &mut [u64]) -> u64
+    ensures { λ r. ⌜ Gives (given recordRow (recordOf (now (s .entry)))) (now (out .entry)) r (now (out .exit)) ⌝ }
+{
     answer::told(give_record(s, out))
 }

@@ -1,4 +1,12 @@
 // A command made, and its answer found.
+ghost use mathlib.Core.Path.{_≡_};
+ghost use lib.ListN.{getD};
+ghost use Rattle.layout.specs.Written.{Wrote, saysWritten};
+ghost use Rattle.session.specs.Search.{answerIn};
+ghost use Rattle.session.specs.Transaction.{Makes, saysMade};
+ghost use Rattle.abi.specs.Answered.{Tells, Gives, given};
+ghost use Rattle.abi.specs.Rows.{replyRow};
+ghost use Rattle.abi.specs.Sent.{commandOf, commandDue, sessionAt, Sent};
 use crate::answer;
 use layout::Written;
 use session::Found;
@@ -6,11 +14,15 @@ use session::Made;
 use session::Session;
 use wire::Command;
 
-fn param(params: &[u32], i: usize) -> u32 {
+fn param(params: &[u32], i: usize) -> u32
+    ensures { λ r. ⌜ r ≡ getD (now (params .entry)) i 0 ⌝ }
+{
     if i < params.len() { params[i] } else { 0 }
 }
 
-fn command_of(code: u16, params: &[u32]) -> Command {
+fn command_of(code: u16, params: &[u32]) -> Command
+    ensures { λ r. ⌜ r ≡ commandOf code (now (params .entry)) ⌝ }
+{
     Command {
         code,
         params: [
@@ -24,7 +36,9 @@ fn command_of(code: u16, params: &[u32]) -> Command {
     }
 }
 
-fn made(number: u32, code: u16, params: &[u32], data: &[u8], with_data: bool, out: &mut [u8]) -> Made {
+fn made(number: u32, code: u16, params: &[u32], data: &[u8], with_data: bool, out: &mut [u8]) -> Made
+    ensures { λ r. ⌜ Makes (sessionAt number) (commandDue «with_data» (commandOf code (now (params .entry))) (now (data .entry))) (now (out .entry)) (saysMade r) (now (out .exit)) ⌝ }
+{
     let session = Session { number };
     if with_data {
         return session::command_with_data(session, command_of(code, params), data, out);
@@ -41,7 +55,9 @@ pub extern "C" fn ptp_command(
     data: &[u8],
     with_data: bool,
     out: &mut [u8],
-) -> u64 {
+) -> u64
+    ensures { λ r. ⌜ Tells (Sent (now (number .entry)) (commandDue «with_data» (commandOf code (now (params .entry))) (now (data .entry))) (now (out .entry)) (now (number .exit)) (now (out .exit))) r ⌝ }
+{
     match made(*number, code, params, data, with_data, out) {
         Made::Done {
             number: _,
@@ -55,7 +71,9 @@ pub extern "C" fn ptp_command(
     }
 }
 
-fn give_answer(s: &[u8], number: u32, out: &mut [u64]) -> Written {
+fn give_answer(s: &[u8], number: u32, out: &mut [u64]) -> Written
+    ensures { λ r. ⌜ Wrote (given replyRow (answerIn number (now (s .entry)))) (now (out .entry)) (saysWritten r) (now (out .exit)) ⌝ }
+{
     match session::find_answer(s, number) {
         Found::Payload(p, next) => answer::give(&[next.at as u64, 0x2001, p.start as u64, p.count as u64], out),
         Found::Response(code, next) => answer::give(&[next.at as u64, code as u64, 0, 0], out),
@@ -65,6 +83,8 @@ fn give_answer(s: &[u8], number: u32, out: &mut [u64]) -> Written {
 
 // The place after the Response, its code, and the start and length of the last Data payload.
 #[no_mangle]
-pub extern "C" fn ptp_find_answer(s: &[u8], number: u32, out: &mut [u64]) -> u64 {
+pub extern "C" fn ptp_find_answer(s: &[u8], number: u32, out: &mut [u64]) -> u64
+    ensures { λ r. ⌜ Gives (given replyRow (answerIn number (now (s .entry)))) (now (out .entry)) r (now (out .exit)) ⌝ }
+{
     answer::told(give_answer(s, number, out))
 }

@@ -8,3 +8,4 @@ pub mod Routes
 pub mod Trails
 pub mod Unique
 pub mod Tested
+pub mod Given

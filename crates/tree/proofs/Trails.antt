@@ -10,16 +10,16 @@ use borrow.Author.Tests.{le-leb, lt-leb, leb-true, leb-false, ltb-true}
 use lib.Dec.{leb, ltb}
 use lib.ListN.{length, getD, take, drop, length-append, drop-of-length-le}
 use lib.Seq.{drop-cons, take-at}
-use Rattle.layout.specs.Answer.{Told, got, refused, bare, pick}
+use Rattle.layout.specs.Answer.{Told, Answer, got, refused, bare, pick}
 use Rattle.layout.specs.Bytes.{Bytes}
-use Rattle.layout.specs.Written.{says, no, Put, leftOf}
+use Rattle.layout.specs.Written.{says, no, Wrote, Put, leftOf}
 use Rattle.layout.proofs.Tidied.{zero-one}
 use Rattle.layout.proofs.Writing.{refusal, no-room, done}
 use Rattle.tree.specs.Facts.{Ruled, Kept, Listing}
 use Rattle.tree.specs.Listed.{times, Every, none, more}
 use Rattle.tree.specs.Table.{Table, tableAt}
 use Rattle.tree.specs.Way.{within, Walk}
-use Rattle.tree.specs.Path.{pathOf, joined, endsFrom, pathsSaid, endsSaid, AllPaths}
+use Rattle.tree.specs.Path.{pathOf, joined, endsFrom, pathsSaid, endsSaid, Walked, AllPaths}
 use Rattle.tree.specs.Says.{Walks}
 use Rattle.tree.proofs.Counts.{hit, pigeon}
 use Rattle.tree.proofs.Routes.{path-short}
@@ -82,6 +82,15 @@ pub front : {ps old new : List ℕ} {n : ℕ} → Walks ps old n new → Walk ps
 front {ps} {old} {new} {n} w =
     let e : take n new ≡ w .list = rw (w .places) (take-at (w .list) (drop (length (w .list)) old) n (sym (w .count))) in
     (rw e (w .walk), ap length e ∙ sym (w .count), omega (arith, w .count, simp length-append at (ap length (w .places))))
+
+-- ── what is given of the walk ──
+
+module _ (t : Table) (out : List ℕ) where
+  pub walk-refused : {why : Told} → refused why ≡ tableAt t → Walked t out (refused why) out
+  walk-refused e = record { order = []; walked = λ n f. zero-one (cc); wrote = refusal (rw (← e)) }
+
+  pub walk-given : {n : ℕ} {l new : List ℕ} {a : Answer (Unit {0})} → got tt n ≡ tableAt t → Walk (t .parents) (within (t .parents)) l → Wrote (says l) out a new → Walked t out a new
+  walk-given {l = l} e w h = record { order = l; walked = λ n f. w; wrote = rw (← e) h }
 
 -- ── what is said of all ──
 

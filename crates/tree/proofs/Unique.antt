@@ -7,12 +7,12 @@ use mathlib.Core.List.{List, _++_}
 use Prim.Native.Nat.{ℕ}
 use lib.ListN.{length, drop}
 use Rattle.layout.specs.Answer.{Told, Answer, got, refused}
-use Rattle.layout.specs.Written.{Said, no, saysWritten, leftOf}
+use Rattle.layout.specs.Written.{Said, says, no, saysWritten, leftOf}
 use Rattle.layout.proofs.Determined.{Tells, one-written}
 use Rattle.layout.proofs.Tidied.{zero-one}
 use Rattle.tree.specs.Table.{Table, tableAt}
 use Rattle.tree.specs.Way.{within, Walk}
-use Rattle.tree.specs.Path.{pathsSaid, endsSaid, AllPaths}
+use Rattle.tree.specs.Path.{saidIf, pathsSaid, endsSaid, Walked, AllPaths}
 use Rattle.tree.specs.Says.{saysChecked, Walks, OrderSays, order, no-order}
 use Rattle.tree.specs.declared.Checked.the-variants as checked
 use Rattle.tree.specs.declared.Order.{Order}
@@ -52,7 +52,7 @@ one-order t r s (no-order {why = x} a e g h) (no-order {why = y} b f i j) =
     let same : x ≡ y = cc in
     orders r s (e ∙ ap (λ (z : Told). z .no) same ∙ sym f) (g ∙ sym i) (h ∙ sym j)
 
--- what is said of all paths goes by the table alone
+-- what is said of the walk and of all paths goes by the table alone
 module _ (t : Table) (l m : List ℕ) (room : ℕ)
     (p : (n : ℕ) → tableAt t ≡ got tt n → Walk (t .parents) (within (t .parents)) l)
     (q : (n : ℕ) → tableAt t ≡ got tt n → Walk (t .parents) (within (t .parents)) m) where
@@ -70,6 +70,13 @@ module _ (t : Table) (l m : List ℕ) (room : ℕ)
   same-ends : endsSaid t l room ≡ endsSaid t m room
   unfolding endsSaid
   same-ends = alike (λ k. endsSaid t k room) (λ why e k. rw e)
+
+  pub same-walk : saidIf (tableAt t) (says l) ≡ saidIf (tableAt t) (says m)
+  same-walk = alike (λ k. saidIf (tableAt t) (says k)) (λ why e k. rw e)
+
+pub one-walked : (t : Table) (old new new′ : List ℕ) (x y : Written) → Walked t old (saysWritten x) new → Walked t old (saysWritten y) new′ → (x ≡ y) × (new ≡ new′)
+one-walked t old new new′ x y p q =
+    one-written (saidIf (tableAt t) (says (q .order))) old new new′ x y (rw (same-walk t (p .order) (q .order) 0 (p .walked) (q .walked)) at (p .wrote)) (q .wrote)
 
 pub one-paths : (t : Table) (out ends : List ℕ) (x y : Written) (o o′ e e′ : List ℕ)
     → AllPaths t out ends (saysWritten x) o e → AllPaths t out ends (saysWritten y) o′ e′ → (x ≡ y) × (o ≡ o′) × (e ≡ e′)

@@ -1,4 +1,4 @@
--- The path of a place in UTF-8, and all paths in walk order.
+-- The path of a place in UTF-8; what is given of a table: its walk, and all paths in walk order.
 -- Assumes nothing.
 use mathlib.Core.Path.{_≡_}
 use mathlib.Core.List.{List, [], _∷_, _++_}
@@ -52,6 +52,12 @@ unfoldable pub endsSaid : Table → List ℕ → ℕ → Said
 endsSaid t l room =
     saidIf (tableAt t)
     (pick (leb (length (joined (t .parents) (t .ends) (t .names) l)) room) (says (endsFrom 0 (t .parents) (t .ends) (t .names) l)) (no (bare 9)))
+
+-- the walk, given as places
+pub record Walked (t : Table) (old : List ℕ) (answer : Answer (Unit {0})) (new : List ℕ) : Type 0 where
+  pub order : List ℕ
+  pub walked : (n : ℕ) → tableAt t ≡ got tt n → Walk (t .parents) (within (t .parents)) order
+  pub wrote : Wrote (saidIf (tableAt t) (says order)) old answer new
 
 -- all paths in walk order, end to end in `out`, and the end of each in `ends`: both are written, or neither is changed
 pub record AllPaths (t : Table) (out ends : List ℕ) (answer : Answer (Unit {0})) (out′ ends′ : List ℕ) : Type 0 where

@@ -9,6 +9,7 @@ pub use climb::path;
 pub use every::paths;
 use layout::Refusal;
 pub use queue::walk;
+pub use queue::walk_into;
 pub use table::check_table;
 
 // How many there are.

@@ -1,15 +1,17 @@
 // The walk of a table, breadth first, by a fixed queue.
 ghost use Prim.Native.Nat.{_+_, _≤_, _<_};
 ghost use lib.ListN.{length};
-ghost use Rattle.layout.specs.Written.{Put};
+ghost use Rattle.layout.specs.Written.{Put, Wrote, says, saysWritten};
 ghost use Rattle.tree.specs.Facts.{Ruled};
 ghost use Rattle.tree.specs.Table.{table};
 ghost use Rattle.tree.specs.Kids.{kids};
 ghost use Rattle.tree.specs.Way.{within};
+ghost use Rattle.tree.specs.Path.{Walked};
 ghost use Rattle.tree.specs.Says.{Walks, OrderSays};
 use crate::Checked;
 use crate::Order;
 use crate::table;
+use layout::Written;
 
 // Puts the places whose parent is `p` behind the first `count`. Where all places are there, none is left to look for.
 fn add_kids(parents: &[u16], p: usize, places: &mut [u16], count: usize) -> usize
@@ -73,5 +75,40 @@ pub fn walk(handles: &[u32], parents: &[u16], ends: &[u32], names: &[u8]) -> Ord
                 places,
             }
         }
+    }
+}
+
+// These places at the front of what was lent; 9 where it is shorter.
+fn give(order: &[u16], places: &mut [u16]) -> Written
+    ensures { λ r. ⌜ Wrote (says (now (order .entry))) (now (places .entry)) (saysWritten r) (now (places .exit)) ⌝ }
+{
+    if places.len() < order.len() {
+        return Written::Refused(layout::plain(9));
+    }
+    let mut i: usize = 0;
+    while i < order.len() {
+        places[i] = order[i];
+        i += 1;
+    }
+    Written::Done(i)
+}
+
+// The walk of a table into what was lent: the table's refusals, then 9.
+pub fn walk_into(
+    handles: &[u32],
+    parents: &[u16],
+    ends: &[u32],
+    names: &[u8],
+    places: &mut [u16],
+) -> Written
+    ensures { λ r. ⌜ Walked (table (now (handles .entry)) (now (parents .entry)) (now (ends .entry)) (now (names .entry))) (now (places .entry)) (saysWritten r) (now (places .exit)) ⌝ }
+{
+    match table::check_table(handles, parents, ends, names) {
+        Checked::Whole(_) => {
+            let mut queue = [0u16; 1024];
+            let count = walk_ruled(parents, &mut queue);
+            give(&queue[..count], places)
+        }
+        Checked::Refused(f) => Written::Refused(f),
     }
 }
