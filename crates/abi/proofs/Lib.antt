@@ -1,1 +1,3 @@
 pub mod Minus
+pub mod Answers
+pub mod Unique

@@ -21,18 +21,6 @@ use wire::ReadProperty;
 use wire::ReadStorage;
 use wire::StorageInfo;
 
-fn wide16(x: u16) -> u64
-    ensures { λ r. ⌜ r ≡ x ⌝ }
-{
-    x as u64
-}
-
-fn wide32(x: u32) -> u64
-    ensures { λ r. ⌜ r ≡ x ⌝ }
-{
-    x as u64
-}
-
 fn device_row(x: DeviceInfo, len: usize) -> [u64; 25]
     ensures { λ r. ⌜ r ≡ len ∷ deviceRow x ⌝ }
 {
@@ -86,21 +74,21 @@ fn object_row(x: ObjectInfo, len: usize) -> [u64; 24]
 {
     [
         len as u64,
-        wide32(x.storage_id),
-        wide16(x.object_format),
-        wide16(x.protection_status),
-        wide32(x.object_compressed_size),
-        wide16(x.thumb_format),
-        wide32(x.thumb_compressed_size),
-        wide32(x.thumb_pix_width),
-        wide32(x.thumb_pix_height),
-        wide32(x.image_pix_width),
-        wide32(x.image_pix_height),
-        wide32(x.image_bit_depth),
-        wide32(x.parent_object),
-        wide16(x.association_type),
-        wide32(x.association_desc),
-        wide32(x.sequence_number),
+        x.storage_id as u64,
+        x.object_format as u64,
+        x.protection_status as u64,
+        x.object_compressed_size as u64,
+        x.thumb_format as u64,
+        x.thumb_compressed_size as u64,
+        x.thumb_pix_width as u64,
+        x.thumb_pix_height as u64,
+        x.image_pix_width as u64,
+        x.image_pix_height as u64,
+        x.image_bit_depth as u64,
+        x.parent_object as u64,
+        x.association_type as u64,
+        x.association_desc as u64,
+        x.sequence_number as u64,
         x.filename.start as u64,
         x.filename.count as u64,
         x.capture_date.start as u64,

@@ -36,12 +36,12 @@ fn command_of(code: u16, params: &[u32]) -> Command
     }
 }
 
-fn made(number: u32, code: u16, params: &[u32], data: &[u8], with_data: bool, out: &mut [u8]) -> Made
-    ensures { λ r. ⌜ Makes (sessionAt number) (commandDue «with_data» (commandOf code (now (params .entry))) (now (data .entry))) (now (out .entry)) (saysMade r) (now (out .exit)) ⌝ }
+fn made(number: u32, code: u16, params: &[u32], payload: &[u8], with_data: bool, out: &mut [u8]) -> Made
+    ensures { λ r. ⌜ Makes (sessionAt number) (commandDue «with_data» (commandOf code (now (params .entry))) (now (payload .entry))) (now (out .entry)) (saysMade r) (now (out .exit)) ⌝ }
 {
     let session = Session { number };
     if with_data {
-        return session::command_with_data(session, command_of(code, params), data, out);
+        return session::command_with_data(session, command_of(code, params), payload, out);
     }
     session::command(session, command_of(code, params), out)
 }
@@ -52,13 +52,13 @@ pub extern "C" fn ptp_command(
     number: &mut u32,
     code: u16,
     params: &[u32],
-    data: &[u8],
+    payload: &[u8],
     with_data: bool,
     out: &mut [u8],
 ) -> u64
-    ensures { λ r. ⌜ Tells (Sent (now (number .entry)) (commandDue «with_data» (commandOf code (now (params .entry))) (now (data .entry))) (now (out .entry)) (now (number .exit)) (now (out .exit))) r ⌝ }
+    ensures { λ r. ⌜ Tells (Sent (now (number .entry)) (commandDue «with_data» (commandOf code (now (params .entry))) (now (payload .entry))) (now (out .entry)) (now (number .exit)) (now (out .exit))) r ⌝ }
 {
-    match made(*number, code, params, data, with_data, out) {
+    match made(*number, code, params, payload, with_data, out) {
         Made::Done {
             number: _,
             next,

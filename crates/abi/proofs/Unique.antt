@@ -1,0 +1,56 @@
+-- The promises determine the answer: two words that a promise allows, and what they leave, are the same.
+-- A word is that of an answer, and the answer that is allowed is one: by the rule of writers, of the walk, of all paths, of commands.
+-- Assumes nothing.
+use mathlib.Core.Path.{_≡_, refl, sym, ap, _∙_}
+use mathlib.Core.List.{List}
+use Prim.Native.Nat.{ℕ}
+use Rattle.layout.specs.Answer.{Answer, got, refused, means}
+use Rattle.layout.specs.Written.{Said, saysWritten}
+use Rattle.layout.specs.declared.Written.{Written}
+use Rattle.layout.specs.declared.Written.the-variants as written
+use Rattle.session.specs.Transaction.{turn}
+use Rattle.tree.specs.Path.{Walked, AllPaths}
+use Rattle.tree.specs.Table.{Table}
+use Rattle.tree.proofs.Unique.{one-walked, one-paths}
+use Rattle.abi.specs.Answered.{word, Tells, Gives}
+use Rattle.abi.specs.Sent.{sessionAt, numberAfter, Sent}
+
+-- one answer is one word
+same-word : {A : Type 0} {P Q : Answer A → Type 0} {r s : ℕ} (x : Tells P r) (y : Tells Q s) → x .answer ≡ y .answer → r ≡ s
+same-word x y e = x .told ∙ ap word e ∙ sym (y .told)
+
+pub one-given : (said : Said) (old new new′ : List ℕ) (r s : ℕ) → Gives said old r new → Gives said old s new′ → (r ≡ s) × (new ≡ new′)
+one-given said old new new′ r s x y =
+    (same-word x y (x .allows .answers ∙ sym (y .allows .answers)), x .allows .leaves ∙ sym (y .allows .leaves))
+
+-- every answer is that of a case
+spoken : Answer (Unit {0}) → Written
+spoken (got u n) = written.Done n
+spoken (refused t) = written.Refused t
+
+says-spoken : (a : Answer (Unit {0})) → saysWritten (spoken a) ≡ a
+says-spoken (got u n) = refl
+says-spoken (refused t) = refl
+
+spoken-one : (a b : Answer (Unit {0})) → spoken a ≡ spoken b → a ≡ b
+spoken-one a b e = sym (says-spoken a) ∙ ap saysWritten e ∙ says-spoken b
+
+pub one-walk-given : (t : Table) (old new new′ : List ℕ) (r s : ℕ)
+    → Tells (λ a. Walked t old a new) r → Tells (λ a. Walked t old a new′) s → (r ≡ s) × (new ≡ new′)
+one-walk-given t old new new′ r s x y =
+    let both = one-walked t old new new′ (spoken (x .answer)) (spoken (y .answer)) (rw says-spoken (x .allows)) (rw says-spoken (y .allows)) in
+    (same-word x y (spoken-one (x .answer) (y .answer) (both .0)), both .1)
+
+pub one-paths-given : (t : Table) (out ends o o′ e e′ : List ℕ) (r s : ℕ)
+    → Tells (λ a. AllPaths t out ends a o e) r → Tells (λ a. AllPaths t out ends a o′ e′) s → (r ≡ s) × (o ≡ o′) × (e ≡ e′)
+one-paths-given t out ends o o′ e e′ r s x y =
+    let all = one-paths t out ends (spoken (x .answer)) (spoken (y .answer)) o o′ e e′ (rw says-spoken (x .allows)) (rw says-spoken (y .allows)) in
+    (same-word x y (spoken-one (x .answer) (y .answer) (all .0)), all .1)
+
+pub one-sent : (n : ℕ) (said : ℕ → Said) (old new new′ : List ℕ) (n′ n″ r s : ℕ)
+    → Tells (Sent n said old n′ new) r → Tells (Sent n said old n″ new′) s → (r ≡ s) × (n′ ≡ n″) × (new ≡ new′)
+one-sent n said old new new′ n′ n″ r s x y =
+    let p = x .allows .makes in
+    let q = y .allows .makes in
+    let same : x .answer ≡ y .answer = p .answers ∙ ap (means (λ _. turn (sessionAt n))) (p .wrote .answers ∙ sym (q .wrote .answers)) ∙ sym (q .answers) in
+    (same-word x y same, x .allows .number ∙ ap (numberAfter n) same ∙ sym (y .allows .number), p .wrote .leaves ∙ sym (q .wrote .leaves))
