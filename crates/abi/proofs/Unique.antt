@@ -24,7 +24,7 @@ one-given said old new new′ r s x y =
     (same-word x y (x .allows .answers ∙ sym (y .allows .answers)), x .allows .leaves ∙ sym (y .allows .leaves))
 
 -- every answer is that of a case
-spoken : Answer (Unit {0}) → Written
+abbrev spoken : Answer (Unit {0}) → Written
 spoken (got u n) = written.Done n
 spoken (refused t) = written.Refused t
 

@@ -165,15 +165,7 @@ fn form_row(f: Form) -> [u64; 7]
             step.start as u64,
             step.len as u64,
         ],
-        Form::List(all, count) => [
-            2,
-            all.start as u64,
-            all.len as u64,
-            count as u64,
-            0,
-            0,
-            0,
-        ],
+        Form::List(all, count) => [2, all.start as u64, all.len as u64, count as u64, 0, 0, 0],
     }
 }
 

@@ -13,7 +13,10 @@ fn give_value(s: &[u8], n: usize, out: &mut [u64]) -> Written
     ensures { λ r. ⌜ Wrote (given slotRow (nthAt n (now (s .entry)))) (now (out .entry)) (saysWritten r) (now (out .exit)) ⌝ }
 {
     match wire::nth(s, n) {
-        ReadNth::Got(_, p, next) => answer::give(&[next.at as u64, p.start as u64, p.len as u64], out),
+        ReadNth::Got(_, p, next) => answer::give(
+            &[next.at as u64, p.start as u64, p.len as u64],
+            out,
+        ),
         ReadNth::Refused(f) => Written::Refused(f),
     }
 }

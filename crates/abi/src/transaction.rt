@@ -36,7 +36,14 @@ fn command_of(code: u16, params: &[u32]) -> Command
     }
 }
 
-fn made(number: u32, code: u16, params: &[u32], payload: &[u8], with_data: bool, out: &mut [u8]) -> Made
+fn made(
+    number: u32,
+    code: u16,
+    params: &[u32],
+    payload: &[u8],
+    with_data: bool,
+    out: &mut [u8],
+) -> Made
     ensures { λ r. ⌜ Makes (sessionAt number) (commandDue «with_data» (commandOf code (now (params .entry))) (now (payload .entry))) (now (out .entry)) (saysMade r) (now (out .exit)) ⌝ }
 {
     let session = Session { number };
@@ -75,7 +82,10 @@ fn give_answer(s: &[u8], number: u32, out: &mut [u64]) -> Written
     ensures { λ r. ⌜ Wrote (given replyRow (answerIn number (now (s .entry)))) (now (out .entry)) (saysWritten r) (now (out .exit)) ⌝ }
 {
     match session::find_answer(s, number) {
-        Found::Payload(p, next) => answer::give(&[next.at as u64, 0x2001, p.start as u64, p.count as u64], out),
+        Found::Payload(p, next) => answer::give(
+            &[next.at as u64, 0x2001, p.start as u64, p.count as u64],
+            out,
+        ),
         Found::Response(code, next) => answer::give(&[next.at as u64, code as u64, 0, 0], out),
         Found::Refused(f) => Written::Refused(f),
     }
