@@ -45,7 +45,7 @@ pub one-paths-given : (t : Table) (out ends o o′ e e′ : List ℕ) (r s : ℕ
     → Tells (λ a. AllPaths t out ends a o e) r → Tells (λ a. AllPaths t out ends a o′ e′) s → (r ≡ s) × (o ≡ o′) × (e ≡ e′)
 one-paths-given t out ends o o′ e e′ r s x y =
     let all = one-paths t out ends (spoken (x .answer)) (spoken (y .answer)) o o′ e e′ (rw says-spoken (x .allows)) (rw says-spoken (y .allows)) in
-    (same-word x y (spoken-one (x .answer) (y .answer) (all .0)), all .1)
+    (same-word x y (spoken-one (x .answer) (y .answer) (all .0)), all .1, all .2)
 
 pub one-sent : (n : ℕ) (said : ℕ → Said) (old new new′ : List ℕ) (n′ n″ r s : ℕ)
     → Tells (Sent n said old n′ new) r → Tells (Sent n said old n″ new′) s → (r ≡ s) × (n′ ≡ n″) × (new ≡ new′)
