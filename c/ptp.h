@@ -5,7 +5,7 @@
  * in the order that is named here is given. Every function ends, keeps no pointer, and neither allocates nor calls back.
  *
  * What a caller owes: a pointer and the length behind it are one array, whose length counts its items and not its bytes. A pointer is
- * aligned for its type, and not NULL unless the length is 0. What is lent for writing overlaps nothing else that is lent.
+ * aligned for its type and not NULL, also where the length is 0. What is lent for writing overlaps nothing else that is lent.
  *
  * In an answer's numbers a string is the START of its units and their COUNT, an array the START of its items and their COUNT: units and
  * items are of two bytes, low byte first, and so lie in the bytes START to START + 2 * COUNT. A value or a payload is a START and a

@@ -12,7 +12,9 @@ fn main() {
     };
     let folder = match folder.join(ARCHIVE).canonicalize() {
         Ok(archive) => archive.parent().expect("an archive lies in a folder").to_path_buf(),
-        Err(why) => panic!("no {ARCHIVE} in {}: {why}; `./ptp rust` makes it, and PTP_ARCHIVE_DIR names another folder", folder.display()),
+        Err(why) => {
+            panic!("no {ARCHIVE} in {}: {why}; `./ptp rust` makes it, and PTP_ARCHIVE_DIR names another folder", folder.display())
+        }
     };
     println!("cargo:rerun-if-changed={}", folder.join(ARCHIVE).display());
     println!("cargo:rustc-link-search=native={}", folder.display());

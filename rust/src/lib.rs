@@ -4,7 +4,7 @@
 //! and a writer writes into the buffer that it is lent. A call either gives its whole answer or a [`Refusal`]; a refused call leaves
 //! what was lent as it was.
 //!
-//! What is proved is the archive behind [`mod@archive`]: what it takes and refuses, each number, where each string, array and value
+//! What is proved is the archive that src/archive.rs calls: what it takes and refuses, each number, where each string, array and value
 //! lies, each byte written. What stands in Rust takes these parts out of the caller's bytes and reads their integers.
 #![no_std]
 #![allow(non_snake_case)] // the fields' names are those of ptp 0.5.0

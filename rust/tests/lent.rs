@@ -1,5 +1,5 @@
 //! What is lent: a refusal leaves it as it was, the exact need suffices, and nothing past what was given is touched.
-use ptp_proved::{newer_value, tidy_property, Newer, ObjectTable, PtpFormData, PtpPropInfo, Refusal, Session};
+use ptp_proved::{newer_value, tidy_property, Newer, ObjectTable, PtpDataType, PtpFormData, PtpPropInfo, Refusal, Session};
 
 const KEPT: u8 = 0xA5;
 
@@ -139,6 +139,18 @@ fn an_index_past_the_list_is_refused() {
     }
     assert_eq!(PtpPropInfo::nth(&RANGE, 0), Err(Refusal::PLACE));
     assert_eq!(PtpPropInfo::nth(&RANGE[..11], 0), Err(Refusal::END));
+}
+
+#[test]
+fn a_list_of_values_without_bytes_has_them_all() {
+    let (info, taken) = PtpPropInfo::decode(b"\x01\x50\0\0\0\0\x02\xFF\xFF").unwrap();
+    let PtpFormData::Enumeration { array } = info.Form else { panic!("a list is a list") };
+    assert_eq!(
+        (taken, array.len(), array.iter().map(|value| value.view()).filter(|view| *view == PtpDataType::UNDEF).count()),
+        (9, 65535, 65535)
+    );
+    assert_eq!(array.nth(65534).map(|value| value.bytes().len()), Ok(0));
+    assert_eq!(array.nth(65535), Err(Refusal::PLACE));
 }
 
 #[test]
