@@ -1,0 +1,251 @@
+/* The byte layer of the picture transfer protocol: twelve proved functions, in C.
+ *
+ * Each function answers how many numbers or bytes it gave, 0 or more; or minus the number of its refusal, -1 to -14. A refusal
+ * changes nothing that was lent, and numbers and bytes past what was given are unchanged. Where several refusals would apply, the first
+ * in the order that is named here is given. Every function ends, keeps no pointer, and neither allocates nor calls back.
+ *
+ * What a caller owes: a pointer and the length behind it are one array, whose length counts its items and not its bytes. A pointer is
+ * aligned for its type and not NULL, also where the length is 0. What is lent for writing overlaps nothing else that is lent.
+ *
+ * In an answer's numbers a string is the START of its units and their COUNT, an array the START of its items and their COUNT: units and
+ * items are of two bytes, low byte first, and so lie in the bytes START to START + 2 * COUNT. A value or a payload is a START and a
+ * LENGTH in bytes. Each start is a place in the bytes that were read. TAKEN is how many of these were read.
+ */
+#ifndef PTP_H
+#define PTP_H
+
+#include <stdbool.h>
+#include <stddef.h>
+#include <stdint.h>
+
+#ifdef __cplusplus
+extern "C" {
+#endif
+
+enum ptp_refusal {
+    PTP_END = 1,     /* the input stops before a field is whole */
+    PTP_TEXT = 2,    /* a string's units hold an unpaired surrogate */
+    PTP_TRAIL = 3,   /* bytes follow what must fill its place */
+    PTP_KIND = 4,    /* a container's kind is not 1 to 4 */
+    PTP_LENGTH = 5,  /* a container's length is below 12 */
+    PTP_SIZE = 6,    /* a container's bytes stop before its announced length */
+    PTP_TID = 7,     /* a container carries another transaction number */
+    PTP_NOPHASE = 8, /* the containers stop, and no Response was seen */
+    PTP_ROOM = 9,    /* the output is shorter than the exact need */
+    PTP_COUNT = 10,  /* too many parameters, or a payload that is too long */
+    PTP_TABLE = 11,  /* the object table breaks its rule */
+    PTP_PLACE = 12,  /* an index that does not exist */
+    PTP_RECORD = 13, /* a record's length is below 6, or its kind not 1 to 3 */
+    PTP_LONG = 14    /* a record's body is over 8,192 bytes */
+};
+
+/* ---- datasets: the one that begins the bytes; bytes may follow it. Refusals, field by field: END, TEXT; then ROOM. ---- */
+
+enum ptp_device_number {
+    PTP_DEVICE_TAKEN,
+    PTP_DEVICE_VERSION,
+    PTP_DEVICE_VENDOR_EX_ID,
+    PTP_DEVICE_VENDOR_EX_VERSION,
+    PTP_DEVICE_VENDOR_EXTENSION_DESC_START,
+    PTP_DEVICE_VENDOR_EXTENSION_DESC_COUNT,
+    PTP_DEVICE_FUNCTIONAL_MODE,
+    PTP_DEVICE_OPERATIONS_SUPPORTED_START,
+    PTP_DEVICE_OPERATIONS_SUPPORTED_COUNT,
+    PTP_DEVICE_EVENTS_SUPPORTED_START,
+    PTP_DEVICE_EVENTS_SUPPORTED_COUNT,
+    PTP_DEVICE_DEVICE_PROPERTIES_SUPPORTED_START,
+    PTP_DEVICE_DEVICE_PROPERTIES_SUPPORTED_COUNT,
+    PTP_DEVICE_CAPTURE_FORMATS_START,
+    PTP_DEVICE_CAPTURE_FORMATS_COUNT,
+    PTP_DEVICE_IMAGE_FORMATS_START,
+    PTP_DEVICE_IMAGE_FORMATS_COUNT,
+    PTP_DEVICE_MANUFACTURER_START,
+    PTP_DEVICE_MANUFACTURER_COUNT,
+    PTP_DEVICE_MODEL_START,
+    PTP_DEVICE_MODEL_COUNT,
+    PTP_DEVICE_DEVICE_VERSION_START,
+    PTP_DEVICE_DEVICE_VERSION_COUNT,
+    PTP_DEVICE_SERIAL_NUMBER_START,
+    PTP_DEVICE_SERIAL_NUMBER_COUNT,
+    PTP_DEVICE_NUMBERS /* 25: how many there are */
+};
+
+int64_t ptp_device_info(const uint8_t *s, size_t s_len, uint64_t *out, size_t out_len);
+
+enum ptp_object_number {
+    PTP_OBJECT_TAKEN,
+    PTP_OBJECT_STORAGE_ID,
+    PTP_OBJECT_OBJECT_FORMAT,
+    PTP_OBJECT_PROTECTION_STATUS,
+    PTP_OBJECT_OBJECT_COMPRESSED_SIZE,
+    PTP_OBJECT_THUMB_FORMAT,
+    PTP_OBJECT_THUMB_COMPRESSED_SIZE,
+    PTP_OBJECT_THUMB_PIX_WIDTH,
+    PTP_OBJECT_THUMB_PIX_HEIGHT,
+    PTP_OBJECT_IMAGE_PIX_WIDTH,
+    PTP_OBJECT_IMAGE_PIX_HEIGHT,
+    PTP_OBJECT_IMAGE_BIT_DEPTH,
+    PTP_OBJECT_PARENT_OBJECT,
+    PTP_OBJECT_ASSOCIATION_TYPE,
+    PTP_OBJECT_ASSOCIATION_DESC,
+    PTP_OBJECT_SEQUENCE_NUMBER,
+    PTP_OBJECT_FILENAME_START,
+    PTP_OBJECT_FILENAME_COUNT,
+    PTP_OBJECT_CAPTURE_DATE_START,
+    PTP_OBJECT_CAPTURE_DATE_COUNT,
+    PTP_OBJECT_MODIFICATION_DATE_START,
+    PTP_OBJECT_MODIFICATION_DATE_COUNT,
+    PTP_OBJECT_KEYWORDS_START,
+    PTP_OBJECT_KEYWORDS_COUNT,
+    PTP_OBJECT_NUMBERS /* 24 */
+};
+
+int64_t ptp_object_info(const uint8_t *s, size_t s_len, uint64_t *out, size_t out_len);
+
+enum ptp_storage_number {
+    PTP_STORAGE_TAKEN,
+    PTP_STORAGE_STORAGE_TYPE,
+    PTP_STORAGE_FILESYSTEM_TYPE,
+    PTP_STORAGE_ACCESS_CAPABILITY,
+    PTP_STORAGE_MAX_CAPACITY,
+    PTP_STORAGE_FREE_SPACE_IN_BYTES,
+    PTP_STORAGE_FREE_SPACE_IN_IMAGES,
+    PTP_STORAGE_STORAGE_DESCRIPTION_START,
+    PTP_STORAGE_STORAGE_DESCRIPTION_COUNT,
+    PTP_STORAGE_VOLUME_LABEL_START,
+    PTP_STORAGE_VOLUME_LABEL_COUNT,
+    PTP_STORAGE_NUMBERS /* 11 */
+};
+
+int64_t ptp_storage_info(const uint8_t *s, size_t s_len, uint64_t *out, size_t out_len);
+
+/* What PTP_PROP_FORM says. */
+enum ptp_form {
+    PTP_FORM_NONE = 0,  /* the six numbers after it are 0 */
+    PTP_FORM_RANGE = 1, /* they are the minimum, the maximum and the step */
+    PTP_FORM_LIST = 2   /* they are a list's: its bytes, how many values, and three of 0 */
+};
+
+enum ptp_prop_number {
+    PTP_PROP_TAKEN,
+    PTP_PROP_PROPERTY_CODE,
+    PTP_PROP_DATA_TYPE,
+    PTP_PROP_GET_SET,
+    PTP_PROP_IS_ENABLE,
+    PTP_PROP_FACTORY_DEFAULT_START,
+    PTP_PROP_FACTORY_DEFAULT_LENGTH,
+    PTP_PROP_CURRENT_START,
+    PTP_PROP_CURRENT_LENGTH,
+    PTP_PROP_FORM,
+    PTP_PROP_MIN_START,
+    PTP_PROP_MIN_LENGTH,
+    PTP_PROP_MAX_START,
+    PTP_PROP_MAX_LENGTH,
+    PTP_PROP_STEP_START,
+    PTP_PROP_STEP_LENGTH,
+    PTP_PROP_NUMBERS, /* 16 */
+    /* of a list: the bytes of all its values, and how many values they are */
+    PTP_PROP_LIST_START = PTP_PROP_MIN_START,
+    PTP_PROP_LIST_LENGTH = PTP_PROP_MIN_LENGTH,
+    PTP_PROP_LIST_COUNT = PTP_PROP_MAX_START
+};
+
+int64_t ptp_prop_info(const uint8_t *s, size_t s_len, uint64_t *out, size_t out_len);
+
+/* ---- what a panel asks of a property's description ---- */
+
+enum ptp_list_value_number {
+    PTP_LIST_VALUE_NEXT, /* the place after it */
+    PTP_LIST_VALUE_START,
+    PTP_LIST_VALUE_LENGTH,
+    PTP_LIST_VALUE_NUMBERS /* 3 */
+};
+
+/* Value n, from 0, of the list of the description that begins the bytes. Refusals: those of ptp_prop_info's reading, END and TEXT; PLACE
+ * where there is no such value or no list; ROOM. */
+int64_t ptp_list_value(const uint8_t *s, size_t s_len, size_t n, uint64_t *out, size_t out_len);
+
+enum ptp_newer_number {
+    PTP_NEWER_OF_PAYLOAD, /* 1: a part of the payload; 0: a part of the description */
+    PTP_NEWER_START,
+    PTP_NEWER_LENGTH,
+    PTP_NEWER_NUMBERS /* 3 */
+};
+
+/* The whole payload where it is exactly one value of the description's type, else the description's current value; an empty part of the
+ * description where that would be refused. Refusal: ROOM. */
+int64_t ptp_newer_value(const uint8_t *description, size_t description_len, const uint8_t *payload, size_t payload_len, uint64_t *out,
+                        size_t out_len);
+
+/* The tidy spelling of the description that begins the bytes: answers how many bytes. Refusals: those of reading it, END and TEXT; ROOM. */
+int64_t ptp_tidy_property(const uint8_t *s, size_t s_len, uint8_t *out, size_t out_len);
+
+/* ---- transactions ---- */
+
+/* A Command container with at most five parameters; where with_data is true, the Data container with the data right behind it, be they
+ * no bytes; else the data are not looked at. Answers how many bytes. *number is the session's transaction number, 0 in a fresh one: the
+ * command uses it, and after success it is the next one's. Refusals, which use no number: COUNT, ROOM. */
+int64_t ptp_command(uint32_t *number, uint16_t code, const uint32_t *params, size_t params_len, const uint8_t *data, size_t data_len,
+                    bool with_data, uint8_t *out, size_t out_len);
+
+/* The Response that brings a payload. */
+enum { PTP_RESPONSE_OK = 0x2001 };
+
+enum ptp_answer_number {
+    PTP_ANSWER_NEXT,          /* the place after the Response */
+    PTP_ANSWER_CODE,          /* its code */
+    PTP_ANSWER_PAYLOAD_START, /* the last Data container's payload: 0 and 0 without Data, and where the code is not PTP_RESPONSE_OK */
+    PTP_ANSWER_PAYLOAD_LENGTH,
+    PTP_ANSWER_NUMBERS /* 4 */
+};
+
+/* The answer to the command of this number, in containers that lie end to end. Refusals, container by container: NOPHASE where no byte is
+ * left, END for six bytes, KIND, END for twelve, LENGTH, SIZE, TID; then ROOM. */
+int64_t ptp_find_answer(const uint8_t *s, size_t s_len, uint32_t number, uint64_t *out, size_t out_len);
+
+/* ---- an object table: handles, parents' places, and names end to end with the end of each; 1 to 1,024 objects ---- */
+
+/* The places in walk order: by depth, then by the places from the root down. Answers how many. Refusals: TABLE; name by name END, TEXT,
+ * TRAIL; ROOM. */
+int64_t ptp_walk(const uint32_t *handles, size_t handles_len, const uint16_t *parents, size_t parents_len, const uint32_t *ends,
+                 size_t ends_len, const uint8_t *names, size_t names_len, uint16_t *places, size_t places_len);
+
+/* All paths in walk order, in UTF-8, end to end, and the end of each. Answers how many bytes; there are as many ends as handles. Refusals:
+ * those of the table as above; ROOM for either output. */
+int64_t ptp_paths(const uint32_t *handles, size_t handles_len, const uint16_t *parents, size_t parents_len, const uint32_t *ends,
+                  size_t ends_len, const uint8_t *names, size_t names_len, uint8_t *out, size_t out_len, uint32_t *out_ends,
+                  size_t out_ends_len);
+
+/* ---- a recording ---- */
+
+/* What PTP_RECORD_KIND says. */
+enum ptp_record_kind {
+    PTP_FROM_CAMERA = 1,
+    PTP_TO_CAMERA = 2,
+    PTP_NOTE = 3 /* the container's five numbers are 0 */
+};
+
+enum ptp_container_kind { PTP_CONTAINER_COMMAND = 1, PTP_CONTAINER_DATA = 2, PTP_CONTAINER_RESPONSE = 3, PTP_CONTAINER_EVENT = 4 };
+
+enum ptp_record_number {
+    PTP_RECORD_TAKEN,
+    PTP_RECORD_KIND,
+    PTP_RECORD_BODY_START,
+    PTP_RECORD_BODY_LENGTH,
+    PTP_RECORD_CONTAINER_KIND,
+    PTP_RECORD_CODE,
+    PTP_RECORD_NUMBER,
+    PTP_RECORD_PAYLOAD_START,
+    PTP_RECORD_PAYLOAD_LENGTH,
+    PTP_RECORD_NUMBERS /* 9 */
+};
+
+/* The record that begins the bytes. Refusals: END for six bytes, RECORD, LONG, END for the body; of its container END, KIND, END, LENGTH,
+ * SIZE, TRAIL; ROOM. */
+int64_t ptp_read_record(const uint8_t *s, size_t s_len, uint64_t *out, size_t out_len);
+
+#ifdef __cplusplus
+}
+#endif
+
+#endif

@@ -1,0 +1,308 @@
+/* Answers questions of docs/ASK.md through ptp.h: one a line in, one a line out. Each name of a number in ptp.h is used here, so that the
+ * replay of `ask` tries that it names the right one. The questions are well written; `./ptp rust` leaves the others out. */
+#include "ptp.h"
+
+#include <inttypes.h>
+#include <stdio.h>
+#include <stdlib.h>
+#include <string.h>
+
+enum { LONGEST = 1200000 };
+
+static char line[LONGEST + 2];
+static uint8_t first[LONGEST], second[LONGEST]; /* the bytes of a question's last words */
+
+static size_t read_bytes(const char *word, uint8_t *bytes)
+{
+    size_t len = 0;
+    unsigned byte;
+    for (; sscanf(word, "%2x", &byte) == 1 && *word != '-'; word += 2)
+        bytes[len++] = (uint8_t)byte;
+    return len;
+}
+
+/* Whether it gave all its numbers; else the refusal is printed. */
+static bool gave(int64_t answer, int64_t numbers)
+{
+    if (answer == numbers)
+        return true;
+    printf("no %" PRId64, -answer);
+    return false;
+}
+
+static uint64_t word_at(const uint8_t *s, size_t width)
+{
+    uint64_t word = 0;
+    while (width-- > 0)
+        word = word << 8 | s[width];
+    return word;
+}
+
+static void print_number(uint64_t number)
+{
+    printf(" %" PRIu64, number);
+}
+
+static void print_units(const uint8_t *s, uint64_t start, uint64_t count)
+{
+    printf("s<");
+    for (uint64_t i = 0; i < count; i++)
+        printf("%s%04x", i ? "." : "", (unsigned)word_at(s + start + 2 * i, 2));
+    printf(">");
+}
+
+static void print_text(const uint8_t *s, uint64_t start, uint64_t count)
+{
+    printf(" ");
+    print_units(s, start, count);
+}
+
+/* An integer of one of the codes 1 to 10, signed where that is odd. */
+static void print_integer(const uint8_t *s, unsigned code)
+{
+    size_t width = (size_t)1 << (code - 1) / 2;
+    if (width == 16)
+        printf("%" PRIu64 ":%" PRIu64, word_at(s + 8, 8), word_at(s, 8));
+    else if (code % 2 == 0)
+        printf("%" PRIu64, word_at(s, width));
+    else if (s[width - 1] < 128)
+        printf("%" PRIu64, word_at(s, width));
+    else
+        printf("-%" PRIu64, (UINT64_MAX >> (64 - 8 * width)) - word_at(s, width) + 1);
+}
+
+static void print_array(const uint8_t *s, uint64_t start, uint64_t count, unsigned code)
+{
+    printf("[");
+    for (uint64_t i = 0; i < count; i++) {
+        fputs(i ? "," : "", stdout);
+        print_integer(s + start + (i << (code - 1) / 2), code);
+    }
+    printf("]");
+}
+
+static void print_shorts(const uint8_t *s, uint64_t start, uint64_t count)
+{
+    printf(" ");
+    print_array(s, start, count, 4);
+}
+
+static void print_value(const uint8_t *s, uint64_t start, uint64_t length, uint64_t type)
+{
+    unsigned code = type & 0x3FFF;
+    bool integer = 1 <= code && code <= 10;
+    printf(" ");
+    if (type == code && integer)
+        print_integer(s + start, code);
+    else if (type == (code | 0x4000) && integer)
+        print_array(s, start + 4, (length - 4) >> (code - 1) / 2, code);
+    else if (type == 0xFFFF)
+        print_units(s, start + 1, length > 1 ? (length - 3) / 2 : 0);
+    else
+        printf("undef");
+}
+
+static void device(const uint8_t *s, size_t len)
+{
+    uint64_t x[PTP_DEVICE_NUMBERS];
+    if (!gave(ptp_device_info(s, len, x, PTP_DEVICE_NUMBERS), 25))
+        return;
+    printf("ok %" PRIu64, x[PTP_DEVICE_TAKEN]);
+    print_number(x[PTP_DEVICE_VERSION]);
+    print_number(x[PTP_DEVICE_VENDOR_EX_ID]);
+    print_number(x[PTP_DEVICE_VENDOR_EX_VERSION]);
+    print_text(s, x[PTP_DEVICE_VENDOR_EXTENSION_DESC_START], x[PTP_DEVICE_VENDOR_EXTENSION_DESC_COUNT]);
+    print_number(x[PTP_DEVICE_FUNCTIONAL_MODE]);
+    print_shorts(s, x[PTP_DEVICE_OPERATIONS_SUPPORTED_START], x[PTP_DEVICE_OPERATIONS_SUPPORTED_COUNT]);
+    print_shorts(s, x[PTP_DEVICE_EVENTS_SUPPORTED_START], x[PTP_DEVICE_EVENTS_SUPPORTED_COUNT]);
+    print_shorts(s, x[PTP_DEVICE_DEVICE_PROPERTIES_SUPPORTED_START], x[PTP_DEVICE_DEVICE_PROPERTIES_SUPPORTED_COUNT]);
+    print_shorts(s, x[PTP_DEVICE_CAPTURE_FORMATS_START], x[PTP_DEVICE_CAPTURE_FORMATS_COUNT]);
+    print_shorts(s, x[PTP_DEVICE_IMAGE_FORMATS_START], x[PTP_DEVICE_IMAGE_FORMATS_COUNT]);
+    print_text(s, x[PTP_DEVICE_MANUFACTURER_START], x[PTP_DEVICE_MANUFACTURER_COUNT]);
+    print_text(s, x[PTP_DEVICE_MODEL_START], x[PTP_DEVICE_MODEL_COUNT]);
+    print_text(s, x[PTP_DEVICE_DEVICE_VERSION_START], x[PTP_DEVICE_DEVICE_VERSION_COUNT]);
+    print_text(s, x[PTP_DEVICE_SERIAL_NUMBER_START], x[PTP_DEVICE_SERIAL_NUMBER_COUNT]);
+}
+
+static void object(const uint8_t *s, size_t len)
+{
+    uint64_t x[PTP_OBJECT_NUMBERS];
+    if (!gave(ptp_object_info(s, len, x, PTP_OBJECT_NUMBERS), 24))
+        return;
+    printf("ok %" PRIu64, x[PTP_OBJECT_TAKEN]);
+    print_number(x[PTP_OBJECT_STORAGE_ID]);
+    print_number(x[PTP_OBJECT_OBJECT_FORMAT]);
+    print_number(x[PTP_OBJECT_PROTECTION_STATUS]);
+    print_number(x[PTP_OBJECT_OBJECT_COMPRESSED_SIZE]);
+    print_number(x[PTP_OBJECT_THUMB_FORMAT]);
+    print_number(x[PTP_OBJECT_THUMB_COMPRESSED_SIZE]);
+    print_number(x[PTP_OBJECT_THUMB_PIX_WIDTH]);
+    print_number(x[PTP_OBJECT_THUMB_PIX_HEIGHT]);
+    print_number(x[PTP_OBJECT_IMAGE_PIX_WIDTH]);
+    print_number(x[PTP_OBJECT_IMAGE_PIX_HEIGHT]);
+    print_number(x[PTP_OBJECT_IMAGE_BIT_DEPTH]);
+    print_number(x[PTP_OBJECT_PARENT_OBJECT]);
+    print_number(x[PTP_OBJECT_ASSOCIATION_TYPE]);
+    print_number(x[PTP_OBJECT_ASSOCIATION_DESC]);
+    print_number(x[PTP_OBJECT_SEQUENCE_NUMBER]);
+    print_text(s, x[PTP_OBJECT_FILENAME_START], x[PTP_OBJECT_FILENAME_COUNT]);
+    print_text(s, x[PTP_OBJECT_CAPTURE_DATE_START], x[PTP_OBJECT_CAPTURE_DATE_COUNT]);
+    print_text(s, x[PTP_OBJECT_MODIFICATION_DATE_START], x[PTP_OBJECT_MODIFICATION_DATE_COUNT]);
+    print_text(s, x[PTP_OBJECT_KEYWORDS_START], x[PTP_OBJECT_KEYWORDS_COUNT]);
+}
+
+static void storage(const uint8_t *s, size_t len)
+{
+    uint64_t x[PTP_STORAGE_NUMBERS];
+    if (!gave(ptp_storage_info(s, len, x, PTP_STORAGE_NUMBERS), 11))
+        return;
+    printf("ok %" PRIu64, x[PTP_STORAGE_TAKEN]);
+    print_number(x[PTP_STORAGE_STORAGE_TYPE]);
+    print_number(x[PTP_STORAGE_FILESYSTEM_TYPE]);
+    print_number(x[PTP_STORAGE_ACCESS_CAPABILITY]);
+    print_number(x[PTP_STORAGE_MAX_CAPACITY]);
+    print_number(x[PTP_STORAGE_FREE_SPACE_IN_BYTES]);
+    print_number(x[PTP_STORAGE_FREE_SPACE_IN_IMAGES]);
+    print_text(s, x[PTP_STORAGE_STORAGE_DESCRIPTION_START], x[PTP_STORAGE_STORAGE_DESCRIPTION_COUNT]);
+    print_text(s, x[PTP_STORAGE_VOLUME_LABEL_START], x[PTP_STORAGE_VOLUME_LABEL_COUNT]);
+}
+
+/* The values of a list must lie end to end in the bytes of the whole list. */
+static void print_list(const uint8_t *s, size_t len, const uint64_t *x)
+{
+    uint64_t value[PTP_LIST_VALUE_NUMBERS], place = x[PTP_PROP_LIST_START];
+    printf(" list %" PRIu64, x[PTP_PROP_LIST_COUNT]);
+    for (uint64_t n = 0; n < x[PTP_PROP_LIST_COUNT]; n++) {
+        if (!gave(ptp_list_value(s, len, n, value, PTP_LIST_VALUE_NUMBERS), 3) || value[PTP_LIST_VALUE_START] != place)
+            printf(" ?");
+        print_value(s, value[PTP_LIST_VALUE_START], value[PTP_LIST_VALUE_LENGTH], x[PTP_PROP_DATA_TYPE]);
+        place = value[PTP_LIST_VALUE_NEXT];
+    }
+    if (place != x[PTP_PROP_LIST_START] + x[PTP_PROP_LIST_LENGTH])
+        printf(" ?");
+}
+
+static void property(const uint8_t *s, size_t len)
+{
+    uint64_t x[PTP_PROP_NUMBERS];
+    if (!gave(ptp_prop_info(s, len, x, PTP_PROP_NUMBERS), 16))
+        return;
+    uint64_t type = x[PTP_PROP_DATA_TYPE];
+    printf("ok %" PRIu64, x[PTP_PROP_TAKEN]);
+    print_number(x[PTP_PROP_PROPERTY_CODE]);
+    print_number(type);
+    print_number(x[PTP_PROP_GET_SET]);
+    print_number(x[PTP_PROP_IS_ENABLE]);
+    print_value(s, x[PTP_PROP_FACTORY_DEFAULT_START], x[PTP_PROP_FACTORY_DEFAULT_LENGTH], type);
+    print_value(s, x[PTP_PROP_CURRENT_START], x[PTP_PROP_CURRENT_LENGTH], type);
+    if (x[PTP_PROP_FORM] == PTP_FORM_NONE)
+        printf(" none");
+    if (x[PTP_PROP_FORM] == PTP_FORM_RANGE) {
+        printf(" range");
+        print_value(s, x[PTP_PROP_MIN_START], x[PTP_PROP_MIN_LENGTH], type);
+        print_value(s, x[PTP_PROP_MAX_START], x[PTP_PROP_MAX_LENGTH], type);
+        print_value(s, x[PTP_PROP_STEP_START], x[PTP_PROP_STEP_LENGTH], type);
+    }
+    if (x[PTP_PROP_FORM] == PTP_FORM_LIST)
+        print_list(s, len, x);
+}
+
+static void newer(const uint8_t *s, size_t len, const uint8_t *payload, size_t payload_len)
+{
+    uint64_t x[PTP_NEWER_NUMBERS];
+    if (!gave(ptp_newer_value(s, len, payload, payload_len, x, PTP_NEWER_NUMBERS), 3))
+        return;
+    const uint8_t *part = (x[PTP_NEWER_OF_PAYLOAD] ? payload : s) + x[PTP_NEWER_START];
+    printf("ok %s", x[PTP_NEWER_OF_PAYLOAD] ? "payload" : "description");
+    print_number(x[PTP_NEWER_START]);
+    print_number(x[PTP_NEWER_LENGTH]);
+    fputs(x[PTP_NEWER_LENGTH] ? " " : " -", stdout);
+    for (uint64_t i = 0; i < x[PTP_NEWER_LENGTH]; i++)
+        printf("%02x", part[i]);
+}
+
+static void answer(const uint8_t *s, size_t len, uint32_t number)
+{
+    uint64_t x[PTP_ANSWER_NUMBERS];
+    if (!gave(ptp_find_answer(s, len, number, x, PTP_ANSWER_NUMBERS), 4))
+        return;
+    if (x[PTP_ANSWER_CODE] == PTP_RESPONSE_OK) {
+        printf("ok data");
+        print_number(x[PTP_ANSWER_PAYLOAD_START]);
+        print_number(x[PTP_ANSWER_PAYLOAD_LENGTH]);
+    } else {
+        printf("ok response");
+        print_number(x[PTP_ANSWER_CODE]);
+    }
+    print_number(x[PTP_ANSWER_NEXT]);
+}
+
+static void record(const uint8_t *s, size_t len)
+{
+    uint64_t x[PTP_RECORD_NUMBERS];
+    if (!gave(ptp_read_record(s, len, x, PTP_RECORD_NUMBERS), 9))
+        return;
+    printf("ok");
+    print_number(x[PTP_RECORD_KIND]);
+    print_number(x[PTP_RECORD_BODY_START]);
+    print_number(x[PTP_RECORD_BODY_LENGTH]);
+    print_number(x[PTP_RECORD_TAKEN]);
+}
+
+/* A container is asked for as the body of a record. That refuses bytes after it, of which the question says nothing: then the body is cut to
+ * the container's own length. */
+static void container(const uint8_t *s, size_t len, uint8_t *lent)
+{
+    uint64_t x[PTP_RECORD_NUMBERS];
+    for (size_t i = 0; i < 4; i++)
+        lent[i] = (uint8_t)((len + 6) >> 8 * i);
+    lent[4] = PTP_FROM_CAMERA;
+    lent[5] = 0;
+    memcpy(lent + 6, s, len);
+    int64_t answer = ptp_read_record(lent, len + 6, x, PTP_RECORD_NUMBERS);
+    if (answer == -PTP_TRAIL) {
+        container(s, word_at(s, 4), lent);
+        return;
+    }
+    if (!gave(answer, 9))
+        return;
+    printf("ok");
+    print_number(x[PTP_RECORD_CONTAINER_KIND]);
+    print_number(x[PTP_RECORD_CODE]);
+    print_number(x[PTP_RECORD_NUMBER]);
+    print_number(x[PTP_RECORD_PAYLOAD_START] - x[PTP_RECORD_BODY_START]);
+    print_number(x[PTP_RECORD_PAYLOAD_LENGTH]);
+}
+
+static void ask(const char *kind, const char *one, const char *two)
+{
+    size_t len = read_bytes(one, first);
+    if (strcmp(kind, "device") == 0)
+        device(first, len);
+    else if (strcmp(kind, "object") == 0)
+        object(first, len);
+    else if (strcmp(kind, "storage") == 0)
+        storage(first, len);
+    else if (strcmp(kind, "property") == 0)
+        property(first, len);
+    else if (strcmp(kind, "newer") == 0)
+        newer(first, len, second, read_bytes(two, second));
+    else if (strcmp(kind, "answer") == 0)
+        answer(second, read_bytes(two, second), (uint32_t)strtoul(one, NULL, 0));
+    else if (strcmp(kind, "record") == 0)
+        record(first, len);
+    else if (strcmp(kind, "container") == 0)
+        container(first, len, second);
+}
+
+int main(void)
+{
+    while (fgets(line, sizeof line, stdin)) {
+        const char *kind = strtok(line, " \n");
+        const char *one = strtok(NULL, " \n");
+        const char *two = strtok(NULL, " \n");
+        ask(kind, one, two ? two : "");
+        printf("\n");
+    }
+    return 0;
+}

@@ -1,0 +1,62 @@
+//! Picks the shutter time that follows the current one, and prints the command that sets it.
+//!
+//!     shutter [HEX]      HEX is a property's description; without it, one that stands here
+//!
+//! c/shutter.c is the same in C.
+use ptp_proved::{PtpFormData, PtpPropInfo, PtpValue, Session, StandardCommandCode};
+use std::process::ExitCode;
+
+// An exposure time, 0x500D, a UINT32 in units of 0.1 ms: 1/125 s now, out of a list of six.
+const DESCRIPTION: &str = concat!(
+    "0d5006000101",
+    "50000000", // the default, 80
+    "50000000", // the current value, 80
+    "020600",   // a list of six
+    "0a000000",
+    "14000000",
+    "28000000",
+    "50000000",
+    "a6000000",
+    "4d010000",
+);
+
+fn read_hex(hex: &str) -> Option<Vec<u8>> {
+    let digit = |c: u8| b"0123456789abcdef".iter().position(|&d| d == c);
+    if hex.len() % 2 == 1 {
+        return None;
+    }
+    hex.as_bytes().chunks(2).map(|two| Some((digit(two[0])? * 16 + digit(two[1])?) as u8)).collect()
+}
+
+// The value of the list that follows the one whose bytes are the current value's.
+fn next_value<'a>(info: &PtpPropInfo<'a>) -> Option<PtpValue<'a>> {
+    let PtpFormData::Enumeration { array } = info.Form else { return None };
+    array.iter().skip_while(|value| value.bytes() != info.Current.bytes()).nth(1)
+}
+
+fn set_next(s: &[u8]) -> Result<(), String> {
+    let (info, _) = PtpPropInfo::decode(s).map_err(|why| format!("refusal {}", why.number()))?;
+    let value = next_value(&info).ok_or("no value follows the current one")?;
+    let mut session = Session::at(1); // OpenSession took 0
+    let mut out = [0; 64];
+    let made = session
+        .command_with_data(StandardCommandCode::SetDevicePropValue, &[info.PropertyCode.into()], value.bytes(), &mut out)
+        .map_err(|why| format!("refusal {}", why.number()))?;
+    println!("{}", made.bytes.iter().map(|byte| format!("{byte:02x}")).collect::<String>());
+    Ok(())
+}
+
+fn main() -> ExitCode {
+    let hex = std::env::args().nth(1).unwrap_or(DESCRIPTION.into());
+    let Some(s) = read_hex(&hex) else {
+        eprintln!("the description is two small hexadecimal digits a byte");
+        return ExitCode::from(2);
+    };
+    match set_next(&s) {
+        Ok(()) => ExitCode::SUCCESS,
+        Err(why) => {
+            eprintln!("{why}");
+            ExitCode::from(1)
+        }
+    }
+}

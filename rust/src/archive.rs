@@ -1,0 +1,234 @@
+//! The archive's functions, declared and called: the only unsafe code.
+//!
+//! Why each call is sound:
+//! - A pointer and the length behind it are those of one Rust slice, here and nowhere else. So the memory is there, aligned and whole, and
+//!   stays lent until the call returns; an empty slice has length 0, and nothing is read or written at its pointer.
+//! - Each function is proved safe and to end, for every input: it reads and writes within the slices that it is lent, and keeps none.
+//! - What is lent for writing is lent by `&mut`, so it overlaps nothing else that is lent.
+//! - All numbers are plain: every bit pattern that comes back is one that its type has.
+#![allow(unsafe_code)]
+use crate::refusal::Refusal;
+
+// The archive's usize is a word of 64 bits, and its answers are as wide.
+const _: () = assert!(usize::BITS == 64);
+
+type ReadsBytes = unsafe extern "C" fn(*const u8, usize, *mut u64, usize) -> i64;
+
+extern "C" {
+    fn ptp_device_info(s: *const u8, s_len: usize, out: *mut u64, out_len: usize) -> i64;
+    fn ptp_object_info(s: *const u8, s_len: usize, out: *mut u64, out_len: usize) -> i64;
+    fn ptp_storage_info(s: *const u8, s_len: usize, out: *mut u64, out_len: usize) -> i64;
+    fn ptp_prop_info(s: *const u8, s_len: usize, out: *mut u64, out_len: usize) -> i64;
+    fn ptp_read_record(s: *const u8, s_len: usize, out: *mut u64, out_len: usize) -> i64;
+    fn ptp_list_value(s: *const u8, s_len: usize, n: usize, out: *mut u64, out_len: usize) -> i64;
+    fn ptp_newer_value(
+        description: *const u8,
+        description_len: usize,
+        payload: *const u8,
+        payload_len: usize,
+        out: *mut u64,
+        out_len: usize,
+    ) -> i64;
+    fn ptp_tidy_property(s: *const u8, s_len: usize, out: *mut u8, out_len: usize) -> i64;
+    fn ptp_command(
+        number: *mut u32,
+        code: u16,
+        params: *const u32,
+        params_len: usize,
+        data: *const u8,
+        data_len: usize,
+        with_data: bool,
+        out: *mut u8,
+        out_len: usize,
+    ) -> i64;
+    fn ptp_find_answer(s: *const u8, s_len: usize, number: u32, out: *mut u64, out_len: usize) -> i64;
+    fn ptp_walk(
+        handles: *const u32,
+        handles_len: usize,
+        parents: *const u16,
+        parents_len: usize,
+        ends: *const u32,
+        ends_len: usize,
+        names: *const u8,
+        names_len: usize,
+        places: *mut u16,
+        places_len: usize,
+    ) -> i64;
+    fn ptp_paths(
+        handles: *const u32,
+        handles_len: usize,
+        parents: *const u16,
+        parents_len: usize,
+        ends: *const u32,
+        ends_len: usize,
+        names: *const u8,
+        names_len: usize,
+        out: *mut u8,
+        out_len: usize,
+        out_ends: *mut u32,
+        out_ends_len: usize,
+    ) -> i64;
+}
+
+// How many were given, or minus the refusal's number.
+fn told(answer: i64) -> Result<usize, Refusal> {
+    if answer >= 0 {
+        return Ok(answer as usize);
+    }
+    Err(Refusal::from_number(answer.unsigned_abs()).expect("the archive refuses by 1 to 14"))
+}
+
+// `f` is one of the archive's.
+fn read_into(f: ReadsBytes, s: &[u8], out: &mut [u64]) -> Result<usize, Refusal> {
+    told(unsafe { f(s.as_ptr(), s.len(), out.as_mut_ptr(), out.len()) })
+}
+
+fn read<const N: usize>(f: ReadsBytes, s: &[u8]) -> Result<[u64; N], Refusal> {
+    let mut out = [0; N];
+    read_into(f, s, &mut out)?;
+    Ok(out)
+}
+
+pub(crate) fn device_info(s: &[u8]) -> Result<[u64; 25], Refusal> {
+    read(ptp_device_info, s)
+}
+
+pub(crate) fn object_info(s: &[u8]) -> Result<[u64; 24], Refusal> {
+    read(ptp_object_info, s)
+}
+
+pub(crate) fn storage_info(s: &[u8]) -> Result<[u64; 11], Refusal> {
+    read(ptp_storage_info, s)
+}
+
+pub(crate) fn prop_info(s: &[u8]) -> Result<[u64; 16], Refusal> {
+    read(ptp_prop_info, s)
+}
+
+pub(crate) fn read_record(s: &[u8]) -> Result<[u64; 9], Refusal> {
+    read(ptp_read_record, s)
+}
+
+pub(crate) fn list_value(s: &[u8], n: usize) -> Result<[u64; 3], Refusal> {
+    let mut out = [0; 3];
+    told(unsafe { ptp_list_value(s.as_ptr(), s.len(), n, out.as_mut_ptr(), out.len()) })?;
+    Ok(out)
+}
+
+pub(crate) fn newer_value(description: &[u8], payload: &[u8]) -> Result<[u64; 3], Refusal> {
+    let mut out = [0; 3];
+    told(unsafe {
+        ptp_newer_value(description.as_ptr(), description.len(), payload.as_ptr(), payload.len(), out.as_mut_ptr(), out.len())
+    })?;
+    Ok(out)
+}
+
+pub(crate) fn tidy_property(s: &[u8], out: &mut [u8]) -> Result<usize, Refusal> {
+    told(unsafe { ptp_tidy_property(s.as_ptr(), s.len(), out.as_mut_ptr(), out.len()) })
+}
+
+pub(crate) fn command(number: &mut u32, code: u16, params: &[u32], data: Option<&[u8]>, out: &mut [u8]) -> Result<usize, Refusal> {
+    let bytes = data.unwrap_or(&[]);
+    told(unsafe {
+        ptp_command(
+            number,
+            code,
+            params.as_ptr(),
+            params.len(),
+            bytes.as_ptr(),
+            bytes.len(),
+            data.is_some(),
+            out.as_mut_ptr(),
+            out.len(),
+        )
+    })
+}
+
+pub(crate) fn find_answer(s: &[u8], number: u32) -> Result<[u64; 4], Refusal> {
+    let mut out = [0; 4];
+    told(unsafe { ptp_find_answer(s.as_ptr(), s.len(), number, out.as_mut_ptr(), out.len()) })?;
+    Ok(out)
+}
+
+pub(crate) fn walk(handles: &[u32], parents: &[u16], ends: &[u32], names: &[u8], places: &mut [u16]) -> Result<usize, Refusal> {
+    told(unsafe {
+        ptp_walk(
+            handles.as_ptr(),
+            handles.len(),
+            parents.as_ptr(),
+            parents.len(),
+            ends.as_ptr(),
+            ends.len(),
+            names.as_ptr(),
+            names.len(),
+            places.as_mut_ptr(),
+            places.len(),
+        )
+    })
+}
+
+pub(crate) fn paths(
+    handles: &[u32],
+    parents: &[u16],
+    ends: &[u32],
+    names: &[u8],
+    out: &mut [u8],
+    out_ends: &mut [u32],
+) -> Result<usize, Refusal> {
+    told(unsafe {
+        ptp_paths(
+            handles.as_ptr(),
+            handles.len(),
+            parents.as_ptr(),
+            parents.len(),
+            ends.as_ptr(),
+            ends.len(),
+            names.as_ptr(),
+            names.len(),
+            out.as_mut_ptr(),
+            out.len(),
+            out_ends.as_mut_ptr(),
+            out_ends.len(),
+        )
+    })
+}
+
+#[cfg(test)]
+mod tests {
+    use super::*;
+
+    const KEPT: u64 = 0xA5A5;
+
+    // What no safe function can ask, since it brings its own room: an output of every length, from a dataset and a record that are right.
+    fn try_rooms(f: ReadsBytes, s: &[u8], need: usize) {
+        for room in 0..need {
+            let mut out = [KEPT; 32];
+            assert_eq!(read_into(f, s, &mut out[..room]), Err(Refusal::ROOM));
+            assert_eq!(out, [KEPT; 32]);
+        }
+        for room in need..need + 2 {
+            let mut out = [KEPT; 32];
+            assert_eq!(read_into(f, s, &mut out[..room]), Ok(need));
+            assert!(out[..need].iter().all(|&n| n != KEPT));
+            assert!(out[need..].iter().all(|&n| n == KEPT));
+        }
+    }
+
+    #[test]
+    fn rows_need_their_exact_room() {
+        try_rooms(ptp_device_info, &[0; 64], 25);
+        try_rooms(ptp_object_info, &[0; 64], 24);
+        try_rooms(ptp_storage_info, &[0; 64], 11);
+        try_rooms(ptp_prop_info, &[0; 64], 16);
+        try_rooms(ptp_read_record, &[6, 0, 0, 0, 3, 0], 9);
+    }
+
+    #[test]
+    fn refused_rows_keep_their_numbers() {
+        for f in [ptp_device_info as ReadsBytes, ptp_object_info, ptp_storage_info, ptp_prop_info, ptp_read_record] {
+            let mut out = [KEPT; 32];
+            assert_eq!(read_into(f, &[6], &mut out), Err(Refusal::END));
+            assert_eq!(out, [KEPT; 32]);
+        }
+    }
+}

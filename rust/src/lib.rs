@@ -1,0 +1,32 @@
+//! The byte layer of the picture transfer protocol, over functions that are proved.
+//!
+//! Names and fields are those of the crate ptp 0.5.0 where they fit. Nothing is allocated: a reading borrows from the bytes that it reads,
+//! and a writer writes into the buffer that it is lent. A call either gives its whole answer or a [`Refusal`]; a refused call leaves
+//! what was lent as it was.
+//!
+//! What is proved is the archive that src/archive.rs calls: what it takes and refuses, each number, where each string, array and value
+//! lies, each byte written. What stands in Rust takes these parts out of the caller's bytes and reads their integers.
+#![no_std]
+#![allow(non_snake_case)] // the fields' names are those of ptp 0.5.0
+#![deny(unsafe_code)] // archive.rs alone lifts this
+
+mod archive;
+mod array;
+mod dataset;
+mod property;
+mod record;
+mod refusal;
+mod session;
+mod text;
+mod tree;
+mod value;
+
+pub use array::{Items, PtpArray, PtpItem};
+pub use dataset::{PtpDeviceInfo, PtpObjectInfo, PtpStorageInfo};
+pub use property::{newer_value, tidy_property, Newer, PtpFormData, PtpPropInfo, PtpValues, Values};
+pub use record::{read_record, PtpContainer, PtpContainerType, PtpRecord, RecordKind};
+pub use refusal::Refusal;
+pub use session::{find_answer, Answer, Made, Session, StandardCommandCode, StandardResponseCode};
+pub use text::PtpString;
+pub use tree::{ObjectTable, Paths};
+pub use value::{PtpDataType, PtpValue};

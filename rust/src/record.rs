@@ -1,0 +1,69 @@
+//! A record of a recording.
+use crate::archive;
+use crate::dataset::Row;
+use crate::refusal::Refusal;
+
+/// A container's kind.
+#[derive(Clone, Copy, Debug, PartialEq, Eq)]
+#[repr(u16)]
+pub enum PtpContainerType {
+    Command = 1,
+    Data = 2,
+    Response = 3,
+    Event = 4,
+}
+
+impl PtpContainerType {
+    pub fn from_u16(kind: u16) -> Option<PtpContainerType> {
+        use PtpContainerType::*;
+        [Command, Data, Response, Event].into_iter().find(|&known| known as u16 == kind)
+    }
+}
+
+/// A container: its kind, code, transaction number and payload.
+#[derive(Clone, Copy, Debug, PartialEq, Eq)]
+pub struct PtpContainer<'a> {
+    pub kind: PtpContainerType,
+    pub code: u16,
+    pub tid: u32,
+    pub payload: &'a [u8],
+}
+
+/// Which way a record's container went, or that the record is a note.
+#[derive(Clone, Copy, Debug, PartialEq, Eq)]
+#[repr(u16)]
+pub enum RecordKind {
+    FromCamera = 1,
+    ToCamera = 2,
+    Note = 3,
+}
+
+/// A record; a note has no container, and any other record's container is its whole body.
+#[derive(Clone, Copy, Debug, PartialEq, Eq)]
+pub struct PtpRecord<'a> {
+    pub kind: RecordKind,
+    pub body: &'a [u8],
+    pub container: Option<PtpContainer<'a>>,
+}
+
+/// The record that begins these bytes, and how many it takes. Refusals: END for six bytes, RECORD, LONG, END for the body; then the
+/// container's own, END, KIND, LENGTH, SIZE, and TRAIL.
+pub fn read_record(s: &[u8]) -> Result<(PtpRecord<'_>, usize), Refusal> {
+    let numbers = archive::read_record(s)?;
+    let mut row = Row::new(s, &numbers);
+    let taken = row.size();
+    let kind = match row.word() {
+        1 => RecordKind::FromCamera,
+        2 => RecordKind::ToCamera,
+        _ => RecordKind::Note,
+    };
+    let body = row.part();
+    // a note's container is of kind 0, which there is not
+    let container = PtpContainerType::from_u16(row.short()).map(|kind| PtpContainer {
+        kind,
+        code: row.short(),
+        tid: row.half(),
+        payload: row.part(),
+    });
+    Ok((PtpRecord { kind, body, container }, taken))
+}

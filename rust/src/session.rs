@@ -1,0 +1,150 @@
+//! Commands of a session, and the search for an answer.
+use crate::archive;
+use crate::dataset::Row;
+use crate::refusal::Refusal;
+
+/// The commands that are spoken of here, by their names in ptp 0.5.0.
+#[allow(non_upper_case_globals)]
+pub mod StandardCommandCode {
+    pub const GetDeviceInfo: u16 = 0x1001;
+    pub const OpenSession: u16 = 0x1002;
+    pub const CloseSession: u16 = 0x1003;
+    pub const GetStorageIDs: u16 = 0x1004;
+    pub const GetStorageInfo: u16 = 0x1005;
+    pub const GetNumObjects: u16 = 0x1006;
+    pub const GetObjectHandles: u16 = 0x1007;
+    pub const GetObjectInfo: u16 = 0x1008;
+    pub const GetObject: u16 = 0x1009;
+    pub const GetDevicePropDesc: u16 = 0x1014;
+    pub const GetDevicePropValue: u16 = 0x1015;
+    pub const SetDevicePropValue: u16 = 0x1016;
+}
+
+/// The Response that brings a payload.
+#[allow(non_upper_case_globals)]
+pub mod StandardResponseCode {
+    pub const Ok: u16 = 0x2001;
+}
+
+/// A command that was made: the number that it used, and its bytes.
+#[derive(Clone, Copy, Debug, PartialEq, Eq)]
+pub struct Made<'o> {
+    pub number: u32,
+    pub bytes: &'o [u8],
+}
+
+/// Counts a session's transaction numbers. A command uses the present one; after 4,294,967,295 comes 0. A refused command uses none.
+#[derive(Clone, Debug, Default, PartialEq, Eq)]
+pub struct Session {
+    number: u32,
+}
+
+impl Session {
+    /// A fresh session, whose number is 0.
+    pub const fn new() -> Session {
+        Session::at(0)
+    }
+
+    /// A session that goes on at a number.
+    pub const fn at(number: u32) -> Session {
+        Session { number }
+    }
+
+    /// The number of the next command.
+    pub const fn number(&self) -> u32 {
+        self.number
+    }
+
+    /// A Command container at the front of the output. Refusals: COUNT for more than five parameters, ROOM.
+    pub fn command<'o>(&mut self, code: u16, params: &[u32], out: &'o mut [u8]) -> Result<Made<'o>, Refusal> {
+        self.make(code, params, None, out)
+    }
+
+    /// A Command container and, right behind it, the Data container with its data. Refusals: COUNT for either, ROOM for both together.
+    pub fn command_with_data<'o>(
+        &mut self,
+        code: u16,
+        params: &[u32],
+        data: &[u8],
+        out: &'o mut [u8],
+    ) -> Result<Made<'o>, Refusal> {
+        self.make(code, params, Some(data), out)
+    }
+
+    fn make<'o>(&mut self, code: u16, params: &[u32], data: Option<&[u8]>, out: &'o mut [u8]) -> Result<Made<'o>, Refusal> {
+        let number = self.number;
+        let count = archive::command(&mut self.number, code, params, data, out)?;
+        Ok(Made { number, bytes: &out[..count] })
+    }
+}
+
+/// The commands of the camera calls. A filter of `None` is sent as 0; the handle of the roots is 0xFFFFFFFF, that of all objects 0.
+impl Session {
+    pub fn get_device_info<'o>(&mut self, out: &'o mut [u8]) -> Result<Made<'o>, Refusal> {
+        self.command(StandardCommandCode::GetDeviceInfo, &[0, 0, 0], out)
+    }
+
+    pub fn open_session<'o>(&mut self, out: &'o mut [u8]) -> Result<Made<'o>, Refusal> {
+        self.command(StandardCommandCode::OpenSession, &[3, 0, 0], out)
+    }
+
+    pub fn close_session<'o>(&mut self, out: &'o mut [u8]) -> Result<Made<'o>, Refusal> {
+        self.command(StandardCommandCode::CloseSession, &[], out)
+    }
+
+    pub fn get_storageids<'o>(&mut self, out: &'o mut [u8]) -> Result<Made<'o>, Refusal> {
+        self.command(StandardCommandCode::GetStorageIDs, &[], out)
+    }
+
+    pub fn get_storage_info<'o>(&mut self, storage_id: u32, out: &'o mut [u8]) -> Result<Made<'o>, Refusal> {
+        self.command(StandardCommandCode::GetStorageInfo, &[storage_id], out)
+    }
+
+    pub fn get_numobjects<'o>(
+        &mut self,
+        storage_id: u32,
+        handle_id: u32,
+        filter: Option<u32>,
+        out: &'o mut [u8],
+    ) -> Result<Made<'o>, Refusal> {
+        self.command(StandardCommandCode::GetNumObjects, &[storage_id, filter.unwrap_or(0), handle_id], out)
+    }
+
+    pub fn get_objecthandles<'o>(
+        &mut self,
+        storage_id: u32,
+        handle_id: u32,
+        filter: Option<u32>,
+        out: &'o mut [u8],
+    ) -> Result<Made<'o>, Refusal> {
+        self.command(StandardCommandCode::GetObjectHandles, &[storage_id, filter.unwrap_or(0), handle_id], out)
+    }
+
+    pub fn get_objectinfo<'o>(&mut self, handle: u32, out: &'o mut [u8]) -> Result<Made<'o>, Refusal> {
+        self.command(StandardCommandCode::GetObjectInfo, &[handle], out)
+    }
+
+    pub fn get_object<'o>(&mut self, handle: u32, out: &'o mut [u8]) -> Result<Made<'o>, Refusal> {
+        self.command(StandardCommandCode::GetObject, &[handle], out)
+    }
+}
+
+/// How a camera answered.
+#[derive(Clone, Copy, Debug, PartialEq, Eq)]
+pub enum Answer<'a> {
+    /// Response Ok: the payload of the last Data container, and where it starts; empty and 0 without Data
+    Data { start: usize, payload: &'a [u8] },
+    /// another Response, with its code
+    Response(u16),
+}
+
+/// The answer to the command of this number, in containers that lie end to end from the start of these bytes; and the place after it.
+/// Refusals, container by container: END, KIND, LENGTH, SIZE, TID; NOPHASE where the bytes end at a container's start.
+pub fn find_answer(s: &[u8], number: u32) -> Result<(Answer<'_>, usize), Refusal> {
+    let [next, code, start, length] = archive::find_answer(s, number)?;
+    let answer = match code as u16 {
+        StandardResponseCode::Ok => Answer::Data { start: start as usize, payload: Row::new(s, &[start, length]).part() },
+        other => Answer::Response(other),
+    };
+    Ok((answer, next as usize))
+}

@@ -1,0 +1,125 @@
+//! A property's value: its bytes, and what they say.
+use crate::array::{PtpArray, PtpItem};
+use crate::text::PtpString;
+use core::fmt;
+
+/// What a value says. A value of 128 bits is the pair (high, low), for the signed type too.
+#[derive(Clone, Copy, Debug, PartialEq, Eq)]
+pub enum PtpDataType<'a> {
+    /// every type code that is none of the others, 0 too; it takes no bytes
+    UNDEF,
+    INT8(i8),
+    UINT8(u8),
+    INT16(i16),
+    UINT16(u16),
+    INT32(i32),
+    UINT32(u32),
+    INT64(i64),
+    UINT64(u64),
+    INT128((u64, u64)),
+    UINT128((u64, u64)),
+    AINT8(PtpArray<'a, i8>),
+    AUINT8(PtpArray<'a, u8>),
+    AINT16(PtpArray<'a, i16>),
+    AUINT16(PtpArray<'a, u16>),
+    AINT32(PtpArray<'a, i32>),
+    AUINT32(PtpArray<'a, u32>),
+    AINT64(PtpArray<'a, i64>),
+    AUINT64(PtpArray<'a, u64>),
+    AINT128(PtpArray<'a, (u64, u64)>),
+    AUINT128(PtpArray<'a, (u64, u64)>),
+    STR(PtpString<'a>),
+}
+
+/// A value as it lies in the caller's bytes, with its type code. Two are equal where they say the same, however they are spelled.
+#[derive(Clone, Copy)]
+pub struct PtpValue<'a> {
+    code: u16,
+    bytes: &'a [u8],
+}
+
+impl<'a> PtpValue<'a> {
+    // The bytes are exactly one value of the type, as the archive found it.
+    pub(crate) fn new(code: u16, bytes: &'a [u8]) -> Self {
+        PtpValue { code, bytes }
+    }
+
+    /// The type code.
+    pub fn data_type(&self) -> u16 {
+        self.code
+    }
+
+    /// Its bytes, as they came: what SetDevicePropValue sends to set it.
+    pub fn bytes(&self) -> &'a [u8] {
+        self.bytes
+    }
+
+    /// What it says.
+    pub fn view(&self) -> PtpDataType<'a> {
+        use PtpDataType::*;
+        let bytes = self.bytes;
+        match self.code {
+            0x0001 => INT8(PtpItem::read(bytes)),
+            0x0002 => UINT8(PtpItem::read(bytes)),
+            0x0003 => INT16(PtpItem::read(bytes)),
+            0x0004 => UINT16(PtpItem::read(bytes)),
+            0x0005 => INT32(PtpItem::read(bytes)),
+            0x0006 => UINT32(PtpItem::read(bytes)),
+            0x0007 => INT64(PtpItem::read(bytes)),
+            0x0008 => UINT64(PtpItem::read(bytes)),
+            0x0009 => INT128(PtpItem::read(bytes)),
+            0x000A => UINT128(PtpItem::read(bytes)),
+            0x4001 => AINT8(items(bytes)),
+            0x4002 => AUINT8(items(bytes)),
+            0x4003 => AINT16(items(bytes)),
+            0x4004 => AUINT16(items(bytes)),
+            0x4005 => AINT32(items(bytes)),
+            0x4006 => AUINT32(items(bytes)),
+            0x4007 => AINT64(items(bytes)),
+            0x4008 => AUINT64(items(bytes)),
+            0x4009 => AINT128(items(bytes)),
+            0x400A => AUINT128(items(bytes)),
+            0xFFFF => STR(text(bytes)),
+            _ => UNDEF,
+        }
+    }
+}
+
+// An array is a count in four bytes, then its items to the end of its bytes.
+fn items<T: PtpItem>(bytes: &[u8]) -> PtpArray<'_, T> {
+    PtpArray::new(&bytes[4..])
+}
+
+// A string is a count byte alone; or that byte, its units, and one unit more.
+fn text(bytes: &[u8]) -> PtpString<'_> {
+    PtpString::new(if bytes.len() == 1 { &[] } else { &bytes[1..bytes.len() - 2] })
+}
+
+// How many bytes the value takes that begins these bytes, which begin with a whole one.
+pub(crate) fn length(code: u16, bytes: &[u8]) -> usize {
+    match code {
+        0x0001..=0x000A => width(code),
+        0x4001..=0x400A => 4 + u32::read(bytes) as usize * width(code - 0x4000),
+        0xFFFF => 1 + 2 * bytes[0] as usize,
+        _ => 0,
+    }
+}
+
+// The integers stand in pairs, signed and unsigned, each pair twice as wide as the last.
+fn width(code: u16) -> usize {
+    1 << ((code - 1) / 2)
+}
+
+impl PartialEq for PtpValue<'_> {
+    fn eq(&self, other: &Self) -> bool {
+        self.code == other.code && self.view() == other.view()
+    }
+}
+
+impl Eq for PtpValue<'_> {}
+
+impl fmt::Debug for PtpValue<'_> {
+    fn fmt(&self, f: &mut fmt::Formatter<'_>) -> fmt::Result {
+        self.view().fmt(f)
+    }
+}

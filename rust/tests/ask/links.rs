@@ -1,0 +1,184 @@
+//! Commands, answers, object tables and records.
+use super::{show, words};
+use ptp_proved::{find_answer, read_record, Answer, Made, ObjectTable, PtpRecord, Refusal, Session};
+
+fn made(number: u32, session: Session, made: Result<usize, Refusal>, out: &[u8]) -> String {
+    match made {
+        Ok(count) => format!("ok {number} {} {count} {}", session.number(), show::bytes(out)),
+        Err(why) => {
+            assert_eq!(session.number(), number, "a refused command used a number");
+            format!("{} {}", show::refusal(why), show::bytes(out))
+        }
+    }
+}
+
+// The bytes that a command says it made must be the front of what it was lent.
+fn count(number: u32, made: Made) -> usize {
+    assert_eq!(made.number, number);
+    made.bytes.len()
+}
+
+pub fn command(state: &str, code: &str, params: &str, data: Option<&str>, room: &str) -> Option<String> {
+    let number = words::half(state)?;
+    let code = words::short(code)?;
+    let params = words::list(params, words::half)?;
+    let data = match data {
+        Some(word) => Some(words::bytes(word)?),
+        None => None,
+    };
+    let mut out = words::room(room)?;
+    let mut session = Session::at(number);
+    let answer = match data {
+        Some(data) => session.command_with_data(code, &params, &data, &mut out),
+        None => session.command(code, &params, &mut out),
+    };
+    let answer = answer.map(|made| count(number, made));
+    Some(made(number, session, answer, &out))
+}
+
+pub fn call(name: &str, state: &str, ids: [&str; 3], room: &str) -> Option<String> {
+    let number = words::half(state)?;
+    let [storage, filter, handle] = ids.map(words::half);
+    let (storage, filter, handle) = (storage?, filter?, handle?);
+    let some_filter = if filter == 0 { None } else { Some(filter) };
+    let mut out = words::room(room)?;
+    let mut session = Session::at(number);
+    let answer = match name {
+        "GetDeviceInfo" => session.get_device_info(&mut out),
+        "OpenSession" => session.open_session(&mut out),
+        "CloseSession" => session.close_session(&mut out),
+        "GetStorageIDs" => session.get_storageids(&mut out),
+        "GetStorageInfo" => session.get_storage_info(storage, &mut out),
+        "GetNumObjects" => session.get_numobjects(storage, handle, some_filter, &mut out),
+        "GetObjectHandles" => session.get_objecthandles(storage, handle, some_filter, &mut out),
+        "GetObjectInfo" => session.get_objectinfo(handle, &mut out),
+        "GetObject" => session.get_object(handle, &mut out),
+        _ => return None,
+    };
+    let answer = answer.map(|made| count(number, made));
+    Some(made(number, session, answer, &out))
+}
+
+pub fn answer(number: &str, s: &str) -> Option<String> {
+    let number = words::half(number)?;
+    let s = words::bytes(s)?;
+    Some(match find_answer(&s, number) {
+        Ok((Answer::Data { start, payload }, next)) => {
+            assert_eq!(show::start(payload, &s), start);
+            format!("ok data {start} {} {next}", payload.len())
+        }
+        Ok((Answer::Response(code), next)) => format!("ok response {code} {next}"),
+        Err(why) => show::refusal(why),
+    })
+}
+
+struct Table {
+    handles: Vec<u32>,
+    parents: Vec<u16>,
+    ends: Vec<u32>,
+    names: Vec<u8>,
+}
+
+impl Table {
+    fn read([handles, parents, ends, names]: [&str; 4]) -> Option<Table> {
+        Some(Table {
+            handles: words::list(handles, words::half)?,
+            parents: words::list(parents, words::short)?,
+            ends: words::list(ends, words::half)?,
+            names: words::bytes(names)?,
+        })
+    }
+
+    fn lent(&self) -> ObjectTable<'_> {
+        ObjectTable { handles: &self.handles, parents: &self.parents, ends: &self.ends, names: &self.names }
+    }
+}
+
+pub fn walk(table: [&str; 4]) -> Option<String> {
+    let table = Table::read(table)?;
+    let mut places = vec![0xA5A5; table.handles.len()];
+    Some(match table.lent().walk(&mut places) {
+        Ok(order) => format!("ok {}", show::numbers(order)),
+        Err(why) => {
+            assert!(places.iter().all(|&place| place == 0xA5A5), "a refused walk wrote");
+            show::refusal(why)
+        }
+    })
+}
+
+pub fn paths(table: [&str; 4], room: &str) -> Option<String> {
+    let table = Table::read(table)?;
+    let mut out = words::room(room)?;
+    let mut ends = vec![0xA5A5; table.handles.len()];
+    let answer = table.lent().paths(&mut out, &mut ends).map(|paths| {
+        let all: String = paths.iter().collect();
+        assert_eq!(all.as_bytes(), paths.bytes());
+        (paths.bytes().len(), show::numbers(paths.ends()))
+    });
+    Some(match answer {
+        Ok((count, ends)) => format!("ok {count} {} {ends}", show::bytes(&out)),
+        Err(why) => {
+            assert!(ends.iter().all(|&end| end == 0xA5A5), "refused paths wrote an end");
+            format!("{} {}", show::refusal(why), show::bytes(&out))
+        }
+    })
+}
+
+// A place's path is that of all paths which stands where the walk has the place. The interface has no path by itself,
+// so its two last refusals are this test's own.
+pub fn path(table: [&str; 4], place: &str, room: &str) -> Option<String> {
+    let table = Table::read(table)?;
+    let place = words::size(place)?;
+    let mut out = words::room(room)?;
+    let mut all = vec![0; 1 << 24];
+    let mut ends = vec![0; table.handles.len()];
+    let mut places = vec![0; table.handles.len()];
+    let answer = table.lent().paths(&mut all, &mut ends).and_then(|paths| {
+        let order = table.lent().walk(&mut places)?;
+        let n = order.iter().position(|&other| usize::from(other) == place).ok_or(Refusal::PLACE)?;
+        let path = paths.get(n).expect("a path for each place of the walk").as_bytes();
+        out.get_mut(..path.len()).ok_or(Refusal::ROOM)?.copy_from_slice(path);
+        Ok(path.len())
+    });
+    Some(match answer {
+        Ok(count) => format!("ok {count} {}", show::bytes(&out)),
+        Err(why) => format!("{} {}", show::refusal(why), show::bytes(&out)),
+    })
+}
+
+fn record_line(s: &[u8], record: PtpRecord, next: usize) -> String {
+    format!("ok {} {} {} {next}", record.kind as u16, show::start(record.body, s), record.body.len())
+}
+
+pub fn record(s: &str) -> Option<String> {
+    let s = words::bytes(s)?;
+    Some(match read_record(&s) {
+        Ok((record, next)) => record_line(&s, record, next),
+        Err(why) => show::refusal(why),
+    })
+}
+
+// A container is asked for as the body of a record. Its record refuses bytes after it, of which the question says nothing: then the body
+// is cut to the container's own length.
+pub fn container(s: &str) -> Option<String> {
+    let s = words::bytes(s)?;
+    let answer = in_record(&s);
+    if answer == show::refusal(Refusal::TRAIL) {
+        let own = u32::from_le_bytes([s[0], s[1], s[2], s[3]]);
+        return Some(in_record(&s[..own as usize]));
+    }
+    Some(answer)
+}
+
+fn in_record(body: &[u8]) -> String {
+    let length = (body.len() as u32 + 6).to_le_bytes();
+    let record = [&length[..], &[1, 0], body].concat();
+    match read_record(&record) {
+        Ok((read, _)) => {
+            let x = read.container.expect("a record of kind 1 has a container");
+            let start = show::start(x.payload, read.body);
+            format!("ok {} {} {} {start} {}", x.kind as u16, x.code, x.tid, x.payload.len())
+        }
+        Err(why) => show::refusal(why),
+    }
+}

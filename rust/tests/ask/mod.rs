@@ -1,0 +1,50 @@
+//! The questions of docs/ASK.md that the interface can answer, answered through it.
+mod datasets;
+mod links;
+mod show;
+mod words;
+
+/// Every kind that is compared.
+pub const KINDS: [&str; 17] = [
+    "device",
+    "object",
+    "storage",
+    "property",
+    "tidy-property",
+    "nth",
+    "list",
+    "newer",
+    "command",
+    "command-data",
+    "call",
+    "answer",
+    "walk",
+    "path",
+    "paths",
+    "record",
+    "container",
+];
+
+/// The answer's words; `None` where the words are no question.
+pub fn answer(kind: &str, words: &[&str]) -> Option<String> {
+    match (kind, words) {
+        ("device", [s]) => datasets::device(s),
+        ("object", [s]) => datasets::object(s),
+        ("storage", [s]) => datasets::storage(s),
+        ("property", [s]) => datasets::property(s),
+        ("tidy-property", [s, room]) => datasets::tidy(s, room),
+        ("nth", [n, s]) => datasets::nth(n, s),
+        ("list", [s]) => datasets::list(s),
+        ("newer", [description, payload]) => datasets::newer(description, payload),
+        ("command", [state, code, params, room]) => links::command(state, code, params, None, room),
+        ("command-data", [state, code, params, s, room]) => links::command(state, code, params, Some(s), room),
+        ("call", [name, state, storage, filter, handle, room]) => links::call(name, state, [storage, filter, handle], room),
+        ("answer", [number, s]) => links::answer(number, s),
+        ("walk", [handles, parents, ends, names]) => links::walk([handles, parents, ends, names]),
+        ("path", [handles, parents, ends, names, place, room]) => links::path([handles, parents, ends, names], place, room),
+        ("paths", [handles, parents, ends, names, room]) => links::paths([handles, parents, ends, names], room),
+        ("record", [s]) => links::record(s),
+        ("container", [s]) => links::container(s),
+        _ => None,
+    }
+}

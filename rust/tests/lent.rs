@@ -1,0 +1,170 @@
+//! What is lent: a refusal leaves it as it was, the exact need suffices, and nothing past what was given is touched.
+use ptp_proved::{newer_value, tidy_property, Newer, ObjectTable, PtpDataType, PtpFormData, PtpPropInfo, Refusal, Session};
+
+const KEPT: u8 = 0xA5;
+
+// A list of an empty string and A; the current value, also empty, is spelled with an unread unit.
+const LIST: [u8; 19] = *b"\x05\xD0\xFF\xFF\x01\x01\x00\x01\x41\x00\x02\x02\x00\x00\x02A\x00\x00\x00";
+const TIDY: [u8; 17] = *b"\x05\xD0\xFF\xFF\x01\x01\x00\x00\x02\x02\x00\x00\x02A\x00\x00\x00";
+const RANGE: [u8; 12] = *b"\x01\x50\x02\x00\x00\x01\x64\x32\x01\x00\x64\x01";
+
+// The root without a name, under it A and C, under A B.
+const TABLE: ObjectTable = ObjectTable {
+    handles: &[1, 2, 3, 4],
+    parents: &[0, 0, 1, 0],
+    ends: &[1, 6, 11, 16],
+    names: b"\x00\x02A\0\0\0\x02B\0\0\0\x02C\0\0\0",
+};
+
+#[test]
+fn tidy_needs_its_exact_room() {
+    for room in 0..TIDY.len() {
+        let mut out = [KEPT; 32];
+        assert_eq!(tidy_property(&LIST, &mut out[..room]), Err(Refusal::ROOM));
+        assert_eq!(out, [KEPT; 32]);
+    }
+    for room in [TIDY.len(), 32] {
+        let mut out = [KEPT; 32];
+        assert_eq!(tidy_property(&LIST, &mut out[..room]), Ok(&TIDY[..]));
+        assert_eq!(out[TIDY.len()..], [KEPT; 32][TIDY.len()..]);
+    }
+}
+
+#[test]
+fn tidy_refused_by_its_reading_writes_nothing() {
+    for cut in 0..LIST.len() {
+        let mut out = [KEPT; 32];
+        assert_eq!(tidy_property(&LIST[..cut], &mut out), Err(Refusal::END));
+        assert_eq!(out, [KEPT; 32]);
+    }
+}
+
+#[test]
+fn command_needs_its_exact_room() {
+    // twelve bytes of the command, four of its parameter, fourteen of its data
+    const NEED: usize = 30;
+    for room in 0..NEED {
+        let mut out = [KEPT; 40];
+        let mut session = Session::at(7);
+        assert_eq!(session.command_with_data(0x1016, &[0x500D], b"AB", &mut out[..room]), Err(Refusal::ROOM));
+        assert_eq!((out, session.number()), ([KEPT; 40], 7));
+    }
+    for room in [NEED, 40] {
+        let mut out = [KEPT; 40];
+        let mut session = Session::at(7);
+        let made = session.command_with_data(0x1016, &[0x500D], b"AB", &mut out[..room]).unwrap();
+        assert_eq!((made.number, made.bytes.len()), (7, NEED));
+        assert_eq!(made.bytes[..16], *b"\x10\0\0\0\x01\0\x16\x10\x07\0\0\0\x0D\x50\0\0");
+        assert_eq!(made.bytes[16..], *b"\x0E\0\0\0\x02\0\x16\x10\x07\0\0\0AB");
+        assert_eq!(session.number(), 8);
+        assert_eq!(out[NEED..], [KEPT; 40][NEED..]);
+    }
+}
+
+#[test]
+fn data_of_no_bytes_is_not_no_data() {
+    let mut out = [KEPT; 24];
+    assert_eq!(Session::new().command(0x1003, &[], &mut out).unwrap().bytes.len(), 12);
+    assert_eq!(Session::new().command_with_data(0x1003, &[], &[], &mut out).unwrap().bytes.len(), 24);
+}
+
+#[test]
+fn refused_command_uses_no_number() {
+    let mut out = [KEPT; 64];
+    let mut session = Session::new();
+    assert_eq!(session.command(0x1001, &[1, 2, 3, 4, 5, 6], &mut out), Err(Refusal::COUNT));
+    assert_eq!((session.number(), out), (0, [KEPT; 64]));
+    assert_eq!(session.command(0x1001, &[1, 2, 3, 4, 5], &mut out).unwrap().number, 0);
+    assert_eq!(session.number(), 1);
+}
+
+#[test]
+fn numbers_begin_again_after_the_last() {
+    let mut session = Session::at(u32::MAX);
+    assert_eq!(session.close_session(&mut [KEPT; 12]).unwrap().number, u32::MAX);
+    assert_eq!(session.number(), 0);
+}
+
+#[test]
+fn walk_needs_its_exact_room() {
+    for room in 0..4 {
+        let mut places = [9; 6];
+        assert_eq!(TABLE.walk(&mut places[..room]), Err(Refusal::ROOM));
+        assert_eq!(places, [9; 6]);
+    }
+    for room in [4, 6] {
+        let mut places = [9; 6];
+        assert_eq!(TABLE.walk(&mut places[..room]), Ok(&[0, 1, 3, 2][..]));
+        assert_eq!(places[4..], [9, 9]);
+    }
+}
+
+#[test]
+fn paths_need_their_exact_room() {
+    for (room, ends_room) in [(4, 4), (5, 3), (0, 0), (4, 3)] {
+        let (mut out, mut ends) = ([KEPT; 8], [9; 6]);
+        assert_eq!(TABLE.paths(&mut out[..room], &mut ends[..ends_room]), Err(Refusal::ROOM));
+        assert_eq!((out, ends), ([KEPT; 8], [9; 6]));
+    }
+    for (room, ends_room) in [(5, 4), (8, 6)] {
+        let (mut out, mut ends) = ([KEPT; 8], [9; 6]);
+        let paths = TABLE.paths(&mut out[..room], &mut ends[..ends_room]).unwrap();
+        assert!(paths.iter().eq(["", "A", "C", "A/B"]));
+        assert_eq!(paths.get(4), None);
+        assert_eq!((&out[5..], &ends[4..]), (&[KEPT; 3][..], &[9; 2][..]));
+    }
+}
+
+#[test]
+fn refused_table_writes_nothing() {
+    let late_parent = ObjectTable { parents: &[0, 0, 3, 0], ..TABLE };
+    let short_names = ObjectTable { ends: &[1, 6, 10, 16], ..TABLE };
+    for (table, why) in [(late_parent, Refusal::TABLE), (short_names, Refusal::END)] {
+        let (mut out, mut ends, mut places) = ([KEPT; 8], [9; 4], [9; 4]);
+        assert_eq!(table.paths(&mut out, &mut ends), Err(why));
+        assert_eq!(table.walk(&mut places), Err(why));
+        assert_eq!((out, ends, places), ([KEPT; 8], [9; 4], [9; 4]));
+    }
+}
+
+#[test]
+fn an_index_past_the_list_is_refused() {
+    let (info, taken) = PtpPropInfo::decode(&LIST).unwrap();
+    let PtpFormData::Enumeration { array } = info.Form else { panic!("a list is a list") };
+    assert_eq!((taken, array.len()), (19, 2));
+    assert_eq!(array.nth(1).unwrap().bytes(), b"\x02A\0\0\0");
+    for n in [2, 3, usize::MAX] {
+        assert_eq!(array.nth(n), Err(Refusal::PLACE));
+        assert_eq!(PtpPropInfo::nth(&LIST, n), Err(Refusal::PLACE));
+    }
+    assert_eq!(PtpPropInfo::nth(&RANGE, 0), Err(Refusal::PLACE));
+    assert_eq!(PtpPropInfo::nth(&RANGE[..11], 0), Err(Refusal::END));
+}
+
+#[test]
+fn a_list_of_values_without_bytes_has_them_all() {
+    let (info, taken) = PtpPropInfo::decode(b"\x01\x50\0\0\0\0\x02\xFF\xFF").unwrap();
+    let PtpFormData::Enumeration { array } = info.Form else { panic!("a list is a list") };
+    assert_eq!(
+        (taken, array.len(), array.iter().map(|value| value.view()).filter(|view| *view == PtpDataType::UNDEF).count()),
+        (9, 65535, 65535)
+    );
+    assert_eq!(array.nth(65534).map(|value| value.bytes().len()), Ok(0));
+    assert_eq!(array.nth(65535), Err(Refusal::PLACE));
+}
+
+#[test]
+fn values_are_equal_by_what_they_say() {
+    let (info, _) = PtpPropInfo::decode(&LIST).unwrap();
+    assert_eq!(info.Current, info.FactoryDefault);
+    assert_ne!(info.Current.bytes(), info.FactoryDefault.bytes());
+    assert_ne!(info.Current, PtpPropInfo::nth(&LIST, 1).unwrap());
+}
+
+#[test]
+fn the_newer_value_is_a_part_of_one_of_the_two() {
+    assert_eq!(newer_value(&RANGE, &[75]), Newer::Payload(&[75]));
+    assert_eq!(newer_value(&RANGE, &[75, 0]), Newer::Description(&[50]));
+    assert_eq!(newer_value(&RANGE[..2], &[75]), Newer::Description(&[]));
+    assert_eq!(newer_value(&RANGE, &[75]).bytes(), [75]);
+}
