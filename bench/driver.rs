@@ -29,7 +29,7 @@ mod bench {
 
     type Numbers = unsafe extern "C" fn(*const u8, usize, *mut u64, usize) -> u64;
     type Bytes = unsafe extern "C" fn(*const u8, usize, *mut u8, usize) -> u64;
-    type Place = unsafe extern "C" fn(u16, *mut u64, usize) -> u64;
+    type Place = unsafe extern "C" fn(u16) -> u64;
     type Spelling = unsafe extern "C" fn(u16, *mut u8, usize) -> u64;
 
     extern "C" {
@@ -49,8 +49,8 @@ mod bench {
         fn bench_tidy_device(s: *const u8, len: usize, out: *mut u8, room: usize) -> u64;
         fn bench_tidy_object(s: *const u8, len: usize, out: *mut u8, room: usize) -> u64;
         fn bench_tidy_storage(s: *const u8, len: usize, out: *mut u8, room: usize) -> u64;
-        fn bench_response_place(code: u16, out: *mut u64, room: usize) -> u64;
-        fn bench_command_place(code: u16, out: *mut u64, room: usize) -> u64;
+        fn bench_response_place(code: u16) -> u64;
+        fn bench_command_place(code: u16) -> u64;
         fn bench_response_name(code: u16, out: *mut u8, room: usize) -> u64;
         fn bench_command_name(code: u16, out: *mut u8, room: usize) -> u64;
     }
@@ -61,10 +61,6 @@ mod bench {
 
     fn bytes(f: Bytes, s: &[u8], out: &mut [u8]) -> u64 {
         unsafe { f(s.as_ptr(), s.len(), out.as_mut_ptr(), out.len()) }
-    }
-
-    fn place(f: Place, code: u16, out: &mut [u64]) -> u64 {
-        unsafe { f(code, out.as_mut_ptr(), out.len()) }
     }
 
     fn spelling(f: Spelling, code: u16, out: &mut [u8]) -> u64 {
@@ -507,15 +503,14 @@ mod bench {
         ] {
             let codes: Vec<u16> = (0..count + 3).map(|i| first + i * 17 % (count + 3)).collect();
             let mut out = vec![0u8; 64];
-            let mut fields = [0u64; 2];
             for &code in &codes {
                 let size = accepted(spelling(spell, code, &mut out));
                 assert_eq!(&out[..size], their(code).unwrap_or("").as_bytes());
-                assert_eq!(accepted(place(at, code, &mut fields)) != 0, their(code).is_some());
+                assert_eq!(unsafe { at(code) } % 65536, size as u64);
             }
             let their = black_box(their);
             line(found, codes.len(),
-                 side(|| for &code in &codes { black_box(place(at, black_box(code), black_box(&mut fields))); }),
+                 side(|| for &code in &codes { black_box(unsafe { at(black_box(code)) }); }),
                  Some(side(|| for &code in &codes { black_box(their(black_box(code))); })));
             let mut copy = out.clone();
             line(written, codes.len(),

@@ -3,22 +3,22 @@ use layout::Written;
 use names::Name;
 use names::Named;
 
-fn give_place(n: Name, out: &mut [u64]) -> Written {
+// A name's start in the name bytes, times 65,536, and its length; 0 for a code without a name.
+fn place(n: Name) -> u64 {
     match n {
-        Name::At { start, len } => abi::give(&[start as u64, len as u64], out),
-        Name::None => Written::Done(0),
+        Name::At { start, len } => (start % 65536) as u64 * 65536 + (len % 65536) as u64,
+        Name::None => 0,
     }
 }
 
-// A name's start in the name bytes and its length; nothing for a code without a name.
 #[no_mangle]
-pub extern "C" fn bench_response_place(code: u16, out: &mut [u64]) -> u64 {
-    abi::told(give_place(names::response_name(code), out))
+pub extern "C" fn bench_response_place(code: u16) -> u64 {
+    place(names::response_name(code))
 }
 
 #[no_mangle]
-pub extern "C" fn bench_command_place(code: u16, out: &mut [u64]) -> u64 {
-    abi::told(give_place(names::command_name(code), out))
+pub extern "C" fn bench_command_place(code: u16) -> u64 {
+    place(names::command_name(code))
 }
 
 fn written(n: Named) -> Written {
