@@ -1,0 +1,15 @@
+-- `bench::name::place`: each case by the case that it is given. Assumes nothing.
+use borrow.Author.Needs.{needs}
+use Rattle.bench.proofs.name.place.Statement.{statement}
+use Rattle.bench.proofs.name.place.Tie as tie
+
+pub place-spec : {M : Type 1} → statement M
+place-spec =
+    tie.close
+    (tie.spec
+    (λ c. search needs)
+    (λ c. search needs)
+    (λ c. search needs)
+    (λ c. search needs)
+    (λ c. rw (c .before .n .given .1))
+    (λ c. search needs))
