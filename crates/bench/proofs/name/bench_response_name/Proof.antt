@@ -12,4 +12,4 @@ bench-response-name-spec =
     (λ c κs. search needs)
     (λ c κs. search needs)
     (λ c. search needs)
-    (λ c. name-given _ (c .before .before .before .before .write-response-name .ensures) (c .before .written .ensures) (c .told .ensures)))
+    (λ c. name-given (c .before .written .result) (c .before .before .before .before .write-response-name .ensures) (c .before .written .ensures) (c .told .ensures)))
