@@ -1,0 +1,103 @@
+"""Fails where C or Rust declares an exported function otherwise than its Rattle source: nothing else compares them.
+
+Compared: the parameters' types and the result of each function of the crates `abi` and `bench` with c/ptp.h, rust/src/archive.rs and
+bench/driver.rs, which may not declare any other; and how many numbers ptp.h has in a dataset's and a record's answer."""
+import os
+import re
+import sys
+
+ROOT = os.path.dirname(os.path.dirname(os.path.abspath(__file__)))
+C_NUMBERS = {'u8': 'uint8_t', 'u16': 'uint16_t', 'u32': 'uint32_t', 'u64': 'uint64_t', 'usize': 'size_t', 'bool': 'bool'}
+
+
+def text(*path):
+    with open(os.path.join(ROOT, *path), encoding='utf-8') as file:
+        return file.read()
+
+
+def sources(crate):
+    folder = os.path.join(ROOT, 'crates', crate, 'src')
+    return '\n'.join(text('crates', crate, 'src', name) for name in sorted(os.listdir(folder)))
+
+
+def parts(parameters):
+    return [part.strip() for part in parameters.split(',') if part.strip()]
+
+
+def exported(crate):
+    """Each exported function's parameter types, a slice as its item's type with `*`, and its result."""
+    found = {}
+    for name, parameters, result in re.findall(r'pub extern "C" fn (\w+)\((.*?)\) -> (\w+)', sources(crate), re.S):
+        found[name] = [part.split(':')[1].strip() for part in parts(parameters)], result
+    return found
+
+
+def in_c(types):
+    """The same in C: a slice is a pointer and a length, and an answer is read as a signed word."""
+    words = []
+    for kind in types:
+        slice_of, lent = re.match(r'&(?:mut )?\[(\w+)\]', kind), re.match(r'&mut (\w+)$', kind)
+        if slice_of:
+            words += [('' if 'mut' in kind else 'const ') + C_NUMBERS[slice_of.group(1)] + ' *', 'size_t']
+        elif lent:
+            words.append(C_NUMBERS[lent.group(1)] + ' *')
+        else:
+            words.append(C_NUMBERS[kind])
+    return words
+
+
+def declared_in_c(header):
+    without_comments = re.sub(r'/\*.*?\*/', '', header, flags=re.S)
+    for name, parameters in re.findall(r'^int64_t (\w+)\((.*?)\);', without_comments, re.S | re.M):
+        yield name, [re.sub(r'\w+$', '', part).strip() for part in parts(re.sub(r'\s+', ' ', parameters))]
+
+
+def declared_in_rust(source):
+    for block in re.findall(r'extern "C" \{(.*?)\n *\}', source, re.S):
+        for name, parameters, result in re.findall(r'fn (\w+)\((.*?)\) -> (\w+);', block, re.S):
+            words = []
+            for part in parts(parameters):
+                kind = part.split(':')[1].strip()
+                pointed = re.match(r'\*(const|mut) (\w+)', kind)
+                if pointed:
+                    words.append(('const ' if pointed.group(1) == 'const' else '') + C_NUMBERS[pointed.group(2)] + ' *')
+                else:
+                    words.append(C_NUMBERS[kind])
+            yield name, words + ([] if result in ('i64', 'u64') else ['-> ' + result])
+
+
+def rows(header):
+    """How many numbers each row function of `abi` makes, and how many names ptp.h has before the one that counts them."""
+    for name, size in re.findall(r'fn (device|object|storage|prop|record)_row\(.*?\) -> \[u64; (\d+)\]', sources('abi'), re.S):
+        listed = re.search(r'enum ptp_%s_number \{(.*?)PTP_%s_NUMBERS' % (name, name.upper()), header, re.S).group(1)
+        yield name, int(size), len(parts(re.sub(r'/\*.*?\*/', '', listed, flags=re.S)))
+
+
+def main():
+    header, faults = text('c', 'ptp.h'), []
+    own = exported('abi')
+    every = {**own, **exported('bench')}
+    faults += ['%s: its result is %s' % (name, result) for name, (_, result) in every.items() if result != 'u64']
+    places = {
+        'c/ptp.h': dict(declared_in_c(header)),
+        'rust/src/archive.rs': dict(declared_in_rust(text('rust', 'src', 'archive.rs'))),
+        'bench/driver.rs': dict(declared_in_rust(text('bench', 'driver.rs'))),
+    }
+    for place, found in places.items():
+        needed = own if place != 'bench/driver.rs' else exported('bench')
+        faults += ['%s: %s is not declared' % (place, name) for name in needed if name not in found]
+        for name, words in found.items():
+            if name not in every:
+                faults.append('%s: %s is not exported' % (place, name))
+            elif words != in_c(every[name][0]):
+                faults.append('%s: %s takes %s, and is declared with %s' % (place, name, in_c(every[name][0]), words))
+    counts = list(rows(header))
+    faults += ['c/ptp.h: %s has %d numbers, and %d names' % row for row in counts if row[1] != row[2]]
+    if len(counts) != 5:
+        faults.append('c/ptp.h: %d of 5 answers were found' % len(counts))
+    print('\n'.join(faults) if faults else 'declared: %d declarations of %d exported functions' % (sum(map(len, places.values())), len(every)))
+    return 1 if faults else 0
+
+
+if __name__ == '__main__':
+    sys.exit(main())
