@@ -1,7 +1,7 @@
 """Fails where C or Rust declares an exported function otherwise than its Rattle source: nothing else compares them.
 
 Compared: the parameters' types and the result of each function of the crates `abi` and `bench` with c/ptp.h, rust/src/archive.rs and
-bench/driver.rs, which may not declare any other; and how many numbers ptp.h has in a dataset's and a record's answer."""
+bench/driver/archive.rs, which may not declare any other; and how many numbers ptp.h has in a dataset's and a record's answer."""
 import os
 import re
 import sys
@@ -81,10 +81,10 @@ def main():
     places = {
         'c/ptp.h': dict(declared_in_c(header)),
         'rust/src/archive.rs': dict(declared_in_rust(text('rust', 'src', 'archive.rs'))),
-        'bench/driver.rs': dict(declared_in_rust(text('bench', 'driver.rs'))),
+        'bench/driver/archive.rs': dict(declared_in_rust(text('bench', 'driver', 'archive.rs'))),
     }
     for place, found in places.items():
-        needed = own if place != 'bench/driver.rs' else exported('bench')
+        needed = own if place != 'bench/driver/archive.rs' else exported('bench')
         faults += ['%s: %s is not declared' % (place, name) for name in needed if name not in found]
         for name, words in found.items():
             if name not in every:

@@ -1,0 +1,70 @@
+
+// Ours, as the archive exports it: a slice is its address and its length.
+
+mod archive {
+    use trees::Table;
+
+    pub type Numbers = unsafe extern "C" fn(*const u8, usize, *mut u64, usize) -> u64;
+    pub type Bytes = unsafe extern "C" fn(*const u8, usize, *mut u8, usize) -> u64;
+    pub type Place = unsafe extern "C" fn(u16) -> u64;
+    pub type Spelling = unsafe extern "C" fn(u16, *mut u8, usize) -> u64;
+
+    extern "C" {
+        pub fn ptp_device_info(s: *const u8, len: usize, out: *mut u64, room: usize) -> u64;
+        pub fn ptp_object_info(s: *const u8, len: usize, out: *mut u64, room: usize) -> u64;
+        pub fn ptp_storage_info(s: *const u8, len: usize, out: *mut u64, room: usize) -> u64;
+        pub fn ptp_prop_info(s: *const u8, len: usize, out: *mut u64, room: usize) -> u64;
+        pub fn ptp_tidy_property(s: *const u8, len: usize, out: *mut u8, room: usize) -> u64;
+        pub fn ptp_command(number: *mut u32, code: u16, params: *const u32, count: usize, data: *const u8, len: usize,
+                       with_data: bool, out: *mut u8, room: usize) -> u64;
+        pub fn ptp_find_answer(s: *const u8, len: usize, number: u32, out: *mut u64, room: usize) -> u64;
+        pub fn ptp_paths(handles: *const u32, handle_count: usize, parents: *const u16, parent_count: usize,
+                     ends: *const u32, end_count: usize, names: *const u8, len: usize, out: *mut u8, room: usize,
+                     out_ends: *mut u32, out_count: usize) -> u64;
+        pub fn bench_utf8(s: *const u8, len: usize, out: *mut u8, room: usize) -> u64;
+        pub fn bench_header(s: *const u8, len: usize, out: *mut u64, room: usize) -> u64;
+        pub fn bench_tidy_device(s: *const u8, len: usize, out: *mut u8, room: usize) -> u64;
+        pub fn bench_tidy_object(s: *const u8, len: usize, out: *mut u8, room: usize) -> u64;
+        pub fn bench_tidy_storage(s: *const u8, len: usize, out: *mut u8, room: usize) -> u64;
+        pub fn bench_response_place(code: u16) -> u64;
+        pub fn bench_command_place(code: u16) -> u64;
+        pub fn bench_response_name(code: u16, out: *mut u8, room: usize) -> u64;
+        pub fn bench_command_name(code: u16, out: *mut u8, room: usize) -> u64;
+    }
+
+    pub fn numbers(f: Numbers, s: &[u8], out: &mut [u64]) -> u64 {
+        unsafe { f(s.as_ptr(), s.len(), out.as_mut_ptr(), out.len()) }
+    }
+
+    pub fn bytes(f: Bytes, s: &[u8], out: &mut [u8]) -> u64 {
+        unsafe { f(s.as_ptr(), s.len(), out.as_mut_ptr(), out.len()) }
+    }
+
+    pub fn spelling(f: Spelling, code: u16, out: &mut [u8]) -> u64 {
+        unsafe { f(code, out.as_mut_ptr(), out.len()) }
+    }
+
+    pub fn find_answer(s: &[u8], number: u32, out: &mut [u64]) -> u64 {
+        unsafe { ptp_find_answer(s.as_ptr(), s.len(), number, out.as_mut_ptr(), out.len()) }
+    }
+
+    pub fn make_command(number: u32, code: u16, params: &[u32], out: &mut [u8]) -> u64 {
+        let mut number = number;
+        unsafe {
+            ptp_command(&mut number, code, params.as_ptr(), params.len(), out.as_ptr(), 0, false, out.as_mut_ptr(), out.len())
+        }
+    }
+
+    pub fn paths(table: &Table, out: &mut [u8], ends: &mut [u32]) -> u64 {
+        unsafe {
+            ptp_paths(table.handles.as_ptr(), table.handles.len(), table.parents.as_ptr(), table.parents.len(),
+                      table.ends.as_ptr(), table.ends.len(), table.names.as_ptr(), table.names.len(),
+                      out.as_mut_ptr(), out.len(), ends.as_mut_ptr(), ends.len())
+        }
+    }
+
+    pub fn accepted(answer: u64) -> usize {
+        assert!(answer as i64 >= 0, "refused with {}", -(answer as i64));
+        answer as usize
+    }
+}

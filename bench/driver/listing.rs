@@ -1,0 +1,57 @@
+
+// The listing of a large recording of small records.
+
+mod listing {
+    use super::*;
+    use clock::*;
+    use inputs::*;
+    use std::fs::{self, File};
+    use std::io::BufWriter;
+    use std::process::{self, Stdio};
+    use std::time::Instant;
+
+    const RECORDING: usize = 64_000_000;
+    const LISTINGS: usize = 7;
+
+    fn record(kind: u16, body: &[u8]) -> Vec<u8> {
+        [u32s(&[6 + body.len() as u32]), u16s(&[kind]), body.to_vec()].concat()
+    }
+
+    /// Writes the recording, and says how many records it has.
+    fn write_recording(path: &str) -> io::Result<usize> {
+        let few = [
+            record(2, &container(1, StandardCommandCode::GetStorageInfo, &u32s(&[0x10001]))),
+            record(1, &container(2, StandardCommandCode::GetStorageInfo, &storage_record())),
+            record(1, &container(3, StandardResponseCode::Ok, &[])),
+            record(3, b"next frame"),
+        ];
+        let times = RECORDING / few.concat().len();
+        let mut file = BufWriter::new(try!(File::create(path)));
+        for _ in 0..times {
+            try!(file.write_all(&few.concat()));
+        }
+        try!(file.flush());
+        Ok(times * few.len())
+    }
+
+    fn run_time(program: &str, input: &str) -> f64 {
+        let began = Instant::now();
+        let done = process::Command::new(program).stdin(File::open(input).expect("the recording")).stdout(Stdio::null()).status();
+        assert!(done.expect("the program runs").success());
+        nanoseconds(began)
+    }
+
+    pub fn listing(program: &str, path: &str) {
+        let count = write_recording(path).expect("the recording is written");
+        let size = fs::metadata(path).expect("the recording").len() as f64;
+        let mut list = vec![];
+        let mut cat = vec![];
+        for _ in 0..LISTINGS {
+            list.push(run_time(program, path));
+            cat.push(run_time("cat", path));
+        }
+        println!();
+        println!("A recording of {:.0} MB in {} records, to /dev/null, medians of {} runs: our listing {:.0} MB/s, `cat` {:.0} MB/s.",
+                 size / 1e6, count, LISTINGS, size / median(list) * 1e3, size / median(cat) * 1e3);
+    }
+}

@@ -1,0 +1,19 @@
+
+// The text of this folder is the project's: our exported functions beside the crate's own, on the same inputs, in one process.
+//
+//     bench LIST RECORDING      LIST is our listing program; RECORDING is written, listed and left
+//
+// Each line is tried first: both sides must agree. Then rounds of ours and theirs take turns.
+
+fn main() {
+    let words: Vec<String> = std::env::args().skip(1).collect();
+    clock::heading();
+    records::records();
+    records::strings();
+    containers::containers();
+    trees::trees();
+    names::names();
+    if words.len() == 2 {
+        listing::listing(&words[0], &words[1]);
+    }
+}

@@ -1,0 +1,83 @@
+
+// Records: theirs is a struct with strings and vectors of its own, ours numbers and places in the bytes. And strings, to UTF-8.
+
+mod records {
+    use super::*;
+    use archive::*;
+    use clock::*;
+    use inputs::*;
+    use std::hint::black_box;
+
+    pub fn records() {
+        let device = device_record();
+        let object = object_record();
+        let storage = storage_record();
+        let property = property_record();
+        let mut fields = [0u64; 32];
+        let mut tidy = vec![0u8; 4096];
+
+        let theirs = PtpDeviceInfo::decode(&device).expect("a device record");
+        accepted(numbers(ptp_device_info, &device, &mut fields));
+        assert_eq!([fields[0], fields[8], fields[24]],
+                   [device.len() as u64, theirs.OperationsSupported.len() as u64, theirs.SerialNumber.len() as u64]);
+        let decode = black_box(PtpDeviceInfo::decode as fn(&[u8]) -> Result<PtpDeviceInfo, Error>);
+        line("device record, 60 operations", 1,
+             side(|| { black_box(numbers(ptp_device_info, black_box(&device), black_box(&mut fields))); }),
+             Some(side(|| { black_box(decode(black_box(&device)).is_ok()); })));
+
+        let theirs = PtpObjectInfo::decode(&object).expect("an object record");
+        accepted(numbers(ptp_object_info, &object, &mut fields));
+        assert_eq!([fields[0], fields[15], fields[17]],
+                   [object.len() as u64, theirs.SequenceNumber as u64, theirs.Filename.len() as u64]);
+        let decode = black_box(PtpObjectInfo::decode as fn(&[u8]) -> Result<PtpObjectInfo, Error>);
+        line("object record", 1,
+             side(|| { black_box(numbers(ptp_object_info, black_box(&object), black_box(&mut fields))); }),
+             Some(side(|| { black_box(decode(black_box(&object)).is_ok()); })));
+
+        let decode: fn(&[u8]) -> Result<PtpStorageInfo, Error> = black_box(|s| PtpStorageInfo::decode(&mut Cursor::new(s)));
+        let theirs = decode(&storage).expect("a storage record");
+        accepted(numbers(ptp_storage_info, &storage, &mut fields));
+        assert_eq!([fields[0], fields[4], fields[10]],
+                   [storage.len() as u64, theirs.MaxCapacity, theirs.VolumeLabel.len() as u64]);
+        line("storage record", 1,
+             side(|| { black_box(numbers(ptp_storage_info, black_box(&storage), black_box(&mut fields))); }),
+             Some(side(|| { black_box(decode(black_box(&storage)).is_ok()); })));
+
+        let decode: fn(&[u8]) -> Result<PtpPropInfo, Error> = black_box(|s| PtpPropInfo::decode(&mut Cursor::new(s)));
+        let theirs = decode(&property).expect("a property record");
+        accepted(numbers(ptp_prop_info, &property, &mut fields));
+        assert_eq!([fields[0], fields[1], fields[12]], [property.len() as u64, theirs.PropertyCode as u64, 60]);
+        line("property record, a list of 60 UINT32", 1,
+             side(|| { black_box(numbers(ptp_prop_info, black_box(&property), black_box(&mut fields))); }),
+             Some(side(|| { black_box(decode(black_box(&property)).is_ok()); })));
+
+        for &(name, f, ref record) in &[
+            ("device record written tidy", bench_tidy_device as Bytes, &device),
+            ("object record written tidy", bench_tidy_object as Bytes, &object),
+            ("storage record written tidy", bench_tidy_storage as Bytes, &storage),
+            ("property record written tidy", ptp_tidy_property as Bytes, &property),
+        ] {
+            let count = accepted(bytes(f, record, &mut tidy));
+            assert_eq!(&tidy[..count], &record[..]);
+            line(name, 1, side(|| { black_box(bytes(f, black_box(record), black_box(&mut tidy))); }), None);
+        }
+    }
+
+    pub fn strings() {
+        for &(name, characters) in &[
+            ("string of 254 units, ASCII", "The quick brown fox. "),
+            ("string of 254 units, 1 to 4 bytes in UTF-8", "Größe 12 日本語 \u{1F600}, "),
+        ] {
+            let text = long_text(characters, 254);
+            let data = string(&text);
+            let mut out = vec![0u8; 1024];
+            let read: fn(&[u8]) -> Result<String, Error> = black_box(|s| Cursor::new(s).read_ptp_str());
+            assert_eq!(read(&data).expect("a string"), text);
+            let count = accepted(bytes(bench_utf8, &data, &mut out));
+            assert_eq!(&out[..count], text.as_bytes());
+            line(name, 1,
+                 side(|| { black_box(bytes(bench_utf8, black_box(&data), black_box(&mut out))); }),
+                 Some(side(|| { black_box(read(black_box(&data)).is_ok()); })));
+        }
+    }
+}
