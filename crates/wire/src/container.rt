@@ -6,8 +6,6 @@ ghost use Rattle.layout.specs.Written.{Wrote, Put, saysWritten};
 ghost use Rattle.wire.specs.Container.{isKind, headerRest, headerAt, containerAt, containerSaid, paramBytes, commandSaid, saysHeader, saysContainer};
 use crate::Cursor;
 use crate::Part;
-use crate::ReadU16;
-use crate::ReadU32;
 use crate::Span;
 use crate::field;
 use layout::Refusal;
@@ -58,42 +56,39 @@ fn is_kind(kind: u16) -> bool
 fn header_rest(s: &[u8], c: Cursor, len: u32, kind: u16) -> ReadHeader
     ensures { λ r. ⌜ saysHeader r ≡ headerRest len kind (now (s .entry)) (c .at) ⌝ }
 {
-    match c.u16(s) {
-        ReadU16::Got(code, a) => match a.u32(s) {
-            ReadU32::Got(number, next) => {
-                if len < 12 {
-                    return ReadHeader::Refused(layout::plain(5));
-                }
-                ReadHeader::Got(
-                    Header {
-                        kind,
-                        code,
-                        number,
-                        payload_len: len - 12,
-                    },
-                    next,
-                )
+    let at = c.at;
+    match field::two_at(s, at, 2, 4) {
+        Span::Till(next) => {
+            if len < 12 {
+                return ReadHeader::Refused(layout::plain(5));
             }
-            ReadU32::Refused(f) => ReadHeader::Refused(f),
-        },
-        ReadU16::Refused(f) => ReadHeader::Refused(f),
+            ReadHeader::Got(
+                Header {
+                    kind,
+                    code: field::word(s, at, 2) as u16,
+                    number: field::word(s, at + 2, 4) as u32,
+                    payload_len: len - 12,
+                },
+                next,
+            )
+        }
+        Span::Refused(f) => ReadHeader::Refused(f),
     }
 }
 
 pub fn read_header(s: &[u8], c: Cursor) -> ReadHeader
     ensures { λ r. ⌜ saysHeader r ≡ headerAt (now (s .entry)) (c .at) ⌝ }
 {
-    match c.u32(s) {
-        ReadU32::Got(len, a) => match a.u16(s) {
-            ReadU16::Got(kind, b) => {
-                if !is_kind(kind) {
-                    return ReadHeader::Refused(layout::plain(4));
-                }
-                header_rest(s, b, len, kind)
+    let at = c.at;
+    match field::two_at(s, at, 4, 2) {
+        Span::Till(rest) => {
+            let kind = field::word(s, at + 4, 2) as u16;
+            if !is_kind(kind) {
+                return ReadHeader::Refused(layout::plain(4));
             }
-            ReadU16::Refused(f) => ReadHeader::Refused(f),
-        },
-        ReadU32::Refused(f) => ReadHeader::Refused(f),
+            header_rest(s, rest, field::word(s, at, 4) as u32, kind)
+        }
+        Span::Refused(f) => ReadHeader::Refused(f),
     }
 }
 

@@ -41,8 +41,7 @@ fn value_slot(s: &[u8], code: u16, at: usize) -> ReadNth
 fn nth_value(s: &[u8], code: u16, start: usize, n: usize) -> ReadNth
     ensures { λ r. ⌜ saysNth r ≡ nthValue code n (now (s .entry)) start ⌝ }
 {
-    let codes = [code];
-    match row::measure_row(&codes, n, s, start) {
+    match row::measure_values(code, n, s, start) {
         Measured::Whole { tidy: _, next } => value_slot(s, code, next),
         Measured::Refused(f) => ReadNth::Refused(f),
     }

@@ -56,8 +56,7 @@ impl Run {
         if self.ok {
             let c = self.next;
             let at = c.at;
-            let codes = [code];
-            match row::measure_row(&codes, n, s, at) {
+            match row::measure_values(code, n, s, at) {
                 Measured::Whole { tidy: _, next } => RunSlot {
                     v: Slot {
                         start: at,

@@ -21,8 +21,7 @@ use layout::Written;
 fn values_len(code: u16, n: usize, src: &[u8], at: usize) -> usize
     ensures { λ r. ⌜ (r ≡ length (spelling (rowWord (types (code ∷ []) n) (now (src .entry)) at))) × (r ≤ length (now (src .entry)) - at) ⌝ }
 {
-    let codes = [code];
-    match row::measure_row(&codes, n, src, at) {
+    match row::measure_values(code, n, src, at) {
         Measured::Whole { tidy, next: _ } => tidy,
         Measured::Refused(_) => 0,
     }

@@ -11,20 +11,19 @@ use Rattle.wire.proofs.list.nth_value.Tie as tie
 returns : tie.Need-returns
 unfolding nthValue
 returns c =
-    let a = c .before .before .before .before .before .before .before .args in
-    follow _ (values-got (a .code) (a .n) (now (a .s)) (a .start) _ _ (heard saysMeasured (c .before .before .next .given .1) (c .before .before .before .before .measure-row .ensures))) (c .value-slot .ensures)
+    let a = c .before .before .before .before .before .before .args in
+    follow _ (values-got (a .code) (a .n) (now (a .s)) (a .start) _ _ (heard saysMeasured (c .before .before .next .given .1) (c .before .before .before .before .measure-values .ensures))) (c .value-slot .ensures)
 
 returns-2 : tie.Need-returns-2
 unfolding nthValue
 returns-2 c =
-    let a = c .before .before .before .before .before .before .args in
-    stop _ (values-refused (a .code) (a .n) (now (a .s)) (a .start) _ (heard saysMeasured (c .before .f .given .1) (c .before .before .before .measure-row .ensures)))
+    let a = c .before .before .before .before .before .args in
+    stop _ (values-refused (a .code) (a .n) (now (a .s)) (a .start) _ (heard saysMeasured (c .before .f .given .1) (c .before .before .before .measure-values .ensures)))
 
 pub nth-value-spec : {M : Type 1} → statement M
 nth-value-spec =
     tie.close
     (tie.spec
-    (λ c. search needs)
     (λ c κs. search needs)
     (λ c. search needs)
     (λ c κs. search needs)
