@@ -73,13 +73,13 @@ pub response-within : (code : ℕ) → Within (responsePlace code)
 unfolding responsePlace responses
 response-within code =
     entered 0x2000 (length responses) code (λ e. Within (given (placeAt 0 responses) e)) tt
-    λ k h. let r = response-ruled k h in rw (r .start, r .size) at (r .inside)
+    λ k h. response-ruled k h .inside
 
 pub command-within : (code : ℕ) → Within (commandPlace code)
 unfolding commandPlace commands
 command-within code =
     entered 0x1000 (length commands) code (λ e. Within (given (placeAt (length (joined responses)) commands) e)) tt
-    λ k h. let r = command-ruled k h in rw (r .start, r .size) at (r .inside)
+    λ k h. command-ruled k h .inside
 
 -- a name has at most 37 bytes
 abbrev pub Short : Option (List ℕ) → Type 0
@@ -88,8 +88,8 @@ Short (some bs) = length bs ≤ 37
 
 pub response-short : (code : ℕ) → Short (responseName code)
 unfolding responseName responses
-response-short code = entered 0x2000 (length responses) code (λ e. Short (given (nameAt responses) e)) tt λ k h. let r = response-ruled k h in rw (r .size) at (r .short)
+response-short code = entered 0x2000 (length responses) code (λ e. Short (given (nameAt responses) e)) tt λ k h. response-ruled k h .short
 
 pub command-short : (code : ℕ) → Short (commandName code)
 unfolding commandName commands
-command-short code = entered 0x1000 (length commands) code (λ e. Short (given (nameAt commands) e)) tt λ k h. let r = command-ruled k h in rw (r .size) at (r .short)
+command-short code = entered 0x1000 (length commands) code (λ e. Short (given (nameAt commands) e)) tt λ k h. command-ruled k h .short

@@ -1,31 +1,25 @@
--- The rule of each table, proved at all of its entries by one test that is computed: an entry's start and size are those of the paper's name
--- with the names before it end to end, and it lies within the name bytes.
+-- The rule of each table, proved at all of its entries by one test that is computed: an entry is the place of the paper's name
+-- with the names before it end to end, and lies within the name bytes.
 -- Assumes nothing.
-use mathlib.Core.Path.{_≡_, refl}
+use mathlib.Core.Path.{_≡_, refl, ap, sym, _∙_}
 use mathlib.Core.Bool.{Bool, true, false}
-use mathlib.Core.List.{List, [], _∷_}
-use Prim.Native.Nat.{ℕ, zero, suc, _+_, _^_, _≤_, _<_}
+use mathlib.Core.List.{List, [], _∷_, map}
+use Prim.Native.Nat.{ℕ, zero, suc, _+_, _/_, _%_, _≤_, _<_}
 use Prim.Native.String.{String}
 use native.Mathlib.Omega.{arith}
 use native.Mathlib.Nat.{not-suc-le-zero}
 use borrow.Author.Tests.{eqb-true, eqb-false}
 use lib.Dec.{T, eqb, leb, eqb→eq, leb→le}
 use lib.ListN.{length, getD}
-use Rattle.names.specs.Names.{responses, commands, joined, nameBytes, placeAt}
+use Rattle.names.specs.Names.{responses, commands, joined, nameBytes, placeAt, packed}
 
 -- ── the tables of the code ──
 
-unfoldable pub responseStarts : List ℕ
-responseStarts = 0 ∷ 9 ∷ 11 ∷ 23 ∷ 37 ∷ 57 ∷ 78 ∷ 99 ∷ 117 ∷ 133 ∷ 152 ∷ 174 ∷ 197 ∷ 206 ∷ 226 ∷ 239 ∷ 251 ∷ 269 ∷ 283 ∷ 298 ∷ 315 ∷ 347 ∷ 364 ∷ 381 ∷ 398 ∷ 422 ∷ 432 ∷ 451 ∷ 474 ∷ 496 ∷ 512 ∷ 530 ∷ 550 ∷ []
+unfoldable pub responseTable : List ℕ
+responseTable = map packed ((0, 9) ∷ (9, 2) ∷ (11, 12) ∷ (23, 14) ∷ (37, 20) ∷ (57, 21) ∷ (78, 21) ∷ (99, 18) ∷ (117, 16) ∷ (133, 19) ∷ (152, 22) ∷ (174, 23) ∷ (197, 9) ∷ (206, 20) ∷ (226, 13) ∷ (239, 12) ∷ (251, 18) ∷ (269, 14) ∷ (283, 15) ∷ (298, 17) ∷ (315, 32) ∷ (347, 17) ∷ (364, 17) ∷ (381, 17) ∷ (398, 24) ∷ (422, 10) ∷ (432, 19) ∷ (451, 23) ∷ (474, 22) ∷ (496, 16) ∷ (512, 18) ∷ (530, 20) ∷ (550, 37) ∷ [])
 
-unfoldable pub responseSizes : List ℕ
-responseSizes = 9 ∷ 2 ∷ 12 ∷ 14 ∷ 20 ∷ 21 ∷ 21 ∷ 18 ∷ 16 ∷ 19 ∷ 22 ∷ 23 ∷ 9 ∷ 20 ∷ 13 ∷ 12 ∷ 18 ∷ 14 ∷ 15 ∷ 17 ∷ 32 ∷ 17 ∷ 17 ∷ 17 ∷ 24 ∷ 10 ∷ 19 ∷ 23 ∷ 22 ∷ 16 ∷ 18 ∷ 20 ∷ 37 ∷ []
-
-unfoldable pub commandStarts : List ℕ
-commandStarts = 587 ∷ 596 ∷ 609 ∷ 620 ∷ 632 ∷ 645 ∷ 659 ∷ 672 ∷ 688 ∷ 701 ∷ 710 ∷ 718 ∷ 730 ∷ 744 ∷ 754 ∷ 769 ∷ 780 ∷ 791 ∷ 799 ∷ 818 ∷ 827 ∷ 844 ∷ 862 ∷ 880 ∷ 900 ∷ 920 ∷ 930 ∷ 940 ∷ 956 ∷ []
-
-unfoldable pub commandSizes : List ℕ
-commandSizes = 9 ∷ 13 ∷ 11 ∷ 12 ∷ 13 ∷ 14 ∷ 13 ∷ 16 ∷ 13 ∷ 9 ∷ 8 ∷ 12 ∷ 14 ∷ 10 ∷ 15 ∷ 11 ∷ 11 ∷ 8 ∷ 19 ∷ 9 ∷ 17 ∷ 18 ∷ 18 ∷ 20 ∷ 20 ∷ 10 ∷ 10 ∷ 16 ∷ 19 ∷ []
+unfoldable pub commandTable : List ℕ
+commandTable = map packed ((587, 9) ∷ (596, 13) ∷ (609, 11) ∷ (620, 12) ∷ (632, 13) ∷ (645, 14) ∷ (659, 13) ∷ (672, 16) ∷ (688, 13) ∷ (701, 9) ∷ (710, 8) ∷ (718, 12) ∷ (730, 14) ∷ (744, 10) ∷ (754, 15) ∷ (769, 11) ∷ (780, 11) ∷ (791, 8) ∷ (799, 19) ∷ (818, 9) ∷ (827, 17) ∷ (844, 18) ∷ (862, 18) ∷ (880, 20) ∷ (900, 20) ∷ (920, 10) ∷ (930, 10) ∷ (940, 16) ∷ (956, 19) ∷ [])
 
 -- ── a test at each number below n ──
 
@@ -58,44 +52,53 @@ each test (suc n) t k h = go (eqb k n) refl (each test n (both-right (test n) (b
 
 -- ── the rule ──
 
-pub record Ruled (first : ℕ) (names : List String) (starts sizes : List ℕ) (k : ℕ) : Type 0 where
-  pub start : getD starts k 0 ≡ placeAt first names k .0
-  pub size : getD sizes k 0 ≡ placeAt first names k .1
-  pub inside : getD starts k 0 + getD sizes k 0 ≤ length nameBytes
-  pub short : getD sizes k 0 ≤ 37
+pub record Ruled (first : ℕ) (names : List String) (table : List ℕ) (k : ℕ) : Type 0 where
+  pub place : getD table k 0 ≡ packed (placeAt first names k)
+  pub inside : placeAt first names k .0 + placeAt first names k .1 ≤ length nameBytes
+  pub short : placeAt first names k .1 ≤ 37
 
-ruled? : ℕ → List String → List ℕ → List ℕ → ℕ → Bool
-ruled? first names starts sizes k =
-    both (eqb (getD starts k 0) (placeAt first names k .0))
-    (both (eqb (getD sizes k 0) (placeAt first names k .1)) (both (leb (getD starts k 0 + getD sizes k 0) (length nameBytes)) (leb (getD sizes k 0) 37)))
+ruled? : ℕ → List String → List ℕ → ℕ → Bool
+ruled? first names table k =
+    let p = placeAt first names k in
+    both (eqb (getD table k 0) (packed p)) (both (leb (p .0 + p .1) (length nameBytes)) (leb (p .1) 37))
 
-all-four : (a b c d : Bool) → T (both a (both b (both c d))) → T a × T b × T c × T d
-all-four a b c d t =
-    let u = both-right a (both b (both c d)) t in
-    let v = both-right b (both c d) u in
-    (both-left a (both b (both c d)) t, both-left b (both c d) u, both-left c d v, both-right c d v)
+all-three : (a b c : Bool) → T (both a (both b c)) → T a × T b × T c
+all-three a b c t = let u = both-right a (both b c) t in (both-left a (both b c) t, both-left b c u, both-right b c u)
 
 -- tested, an entry keeps the rule
-kept : (first : ℕ) (names : List String) (starts sizes : List ℕ) (k : ℕ) → T (ruled? first names starts sizes k) → Ruled first names starts sizes k
+kept : (first : ℕ) (names : List String) (table : List ℕ) (k : ℕ) → T (ruled? first names table k) → Ruled first names table k
 unfolding ruled?
-kept first names starts sizes k t =
-    let start = getD starts k 0 in
-    let size = getD sizes k 0 in
+kept first names table k t =
     let p = placeAt first names k in
-    let f = all-four (eqb start (p .0)) (eqb size (p .1)) (leb (start + size) (length nameBytes)) (leb size 37) t in
-    record { start = eqb→eq start (p .0) (f .0); size = eqb→eq size (p .1) (f .1); inside = leb→le (start + size) (length nameBytes) (f .2); short = leb→le size 37 (f .3) }
+    let f = all-three (eqb (getD table k 0) (packed p)) (leb (p .0 + p .1) (length nameBytes)) (leb (p .1) 37) t in
+    record { place = eqb→eq (getD table k 0) (packed p) (f .0); inside = leb→le (p .0 + p .1) (length nameBytes) (f .1); short = leb→le (p .1) 37 (f .2) }
 
-pub placed : {first : ℕ} {names : List String} {starts sizes : List ℕ} {k : ℕ} → Ruled first names starts sizes k → _≡_ {A = ℕ × ℕ} (getD starts k 0, getD sizes k 0) (placeAt first names k)
-placed r = rw (r .start, r .size)
+pub response-ruled : (k : ℕ) → k < 33 → Ruled 0 responses responseTable k
+unfolding responses commands responseTable nameBytes below both ruled?
+response-ruled k h = kept 0 responses responseTable k (each (ruled? 0 responses responseTable) 33 tt k h)
 
-pub small : {first : ℕ} {names : List String} {starts sizes : List ℕ} {k : ℕ} → Ruled first names starts sizes k → (getD starts k 0 < 256 ^ 2) × (getD sizes k 0 < 256 ^ 2)
-unfolding nameBytes responses commands
-small r = (omega arith, omega arith)
+pub command-ruled : (k : ℕ) → k < 29 → Ruled (length (joined responses)) commands commandTable k
+unfolding responses commands commandTable nameBytes below both ruled?
+command-ruled k h = kept (length (joined responses)) commands commandTable k (each (ruled? (length (joined responses)) commands commandTable) 29 tt k h)
 
-pub response-ruled : (k : ℕ) → k < 33 → Ruled 0 responses responseStarts responseSizes k
-unfolding responses commands responseStarts responseSizes nameBytes below both ruled?
-response-ruled k h = kept 0 responses responseStarts responseSizes k (each (ruled? 0 responses responseStarts responseSizes) 33 tt k h)
+-- an entry by its number, and taken apart
+pub ruled-at : {first : ℕ} {names : List String} (table : List ℕ) {i k : ℕ} → k ≡ i → Ruled first names table k → getD table i 0 ≡ packed (placeAt first names k)
+ruled-at table e r = ap (λ m. getD table m 0) (sym e) ∙ r .place
 
-pub command-ruled : (k : ℕ) → k < 29 → Ruled (length (joined responses)) commands commandStarts commandSizes k
-unfolding responses commands commandStarts commandSizes nameBytes below both ruled?
-command-ruled k h = kept (length (joined responses)) commands commandStarts commandSizes k (each (ruled? (length (joined responses)) commands commandStarts commandSizes) 29 tt k h)
+pub unpacked : {first : ℕ} {names : List String} {table : List ℕ} {k m : ℕ} → Ruled first names table k → m ≡ packed (placeAt first names k) → _≡_ {A = ℕ × ℕ} (m / 64, m % 64) (placeAt first names k)
+unpacked {first} {names} {table} {k} {m} r e =
+    let p = placeAt first names k in
+    let s : m / 64 ≡ p .0 = omega (arith, r .short) in
+    let l : m % 64 ≡ p .1 = omega (arith, r .short) in
+    rw (s, l)
+
+-- ── past the arms of a match ──
+
+-- it is none of the numbers below n
+abbrev pub NoneOf : ℕ → ℕ → Type 0
+NoneOf zero k = Unit {0}
+NoneOf (suc n) k = NoneOf n k × (k ≡ n → ⊥)
+
+pub past : (n k : ℕ) → NoneOf n k → n ≤ k
+past zero k h = omega arith
+past (suc n) k h = let m = past n k (h .0) in let f = h .1 in omega arith

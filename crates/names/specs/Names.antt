@@ -2,7 +2,7 @@
 -- Assumes nothing.
 use mathlib.Core.List.{List, [], _∷_, _++_}
 use mathlib.Core.Option.{Option, none, some}
-use Prim.Native.Nat.{ℕ, _+_, _-_}
+use Prim.Native.Nat.{ℕ, _+_, _-_, _*_}
 use Prim.Native.Char.{code}
 use Prim.Native.String.{String, [] as blank, _∷_ as _before_}
 use lib.Dec.{leb, ltb}
@@ -123,6 +123,10 @@ commandName code = given (nameAt commands) (entryOf 0x1000 (length commands) cod
 -- of an entry of a table whose bytes begin at `first`: after the names before it
 abbrev pub placeAt : ℕ → List String → ℕ → ℕ × ℕ
 placeAt first names k = (first + length (joined (take k names)), length (nameAt names k))
+
+-- in one number, as the tables have it: no name has 64 bytes
+abbrev pub packed : ℕ × ℕ → ℕ
+packed p = p .0 * 64 + p .1
 
 unfoldable pub responsePlace : ℕ → Option (ℕ × ℕ)
 responsePlace code = given (placeAt 0 responses) (entryOf 0x2000 (length responses) code)

@@ -1,4 +1,4 @@
--- `names::response_name` finds the code's entry, and the table's rule says what its start and size are. Assumes nothing.
+-- `names::response_name` finds the code's entry, and takes its start and size apart. Assumes nothing.
 use mathlib.Core.Path.{ap}
 use mathlib.Core.Option.{some}
 use Prim.Native.Nat.{_-_}
@@ -6,7 +6,7 @@ use native.Mathlib.Omega.{arith}
 use borrow.Author.Needs.{needs}
 use lib.ListN.{length}
 use Rattle.names.specs.Names.{responses, responsePlace}
-use Rattle.names.proofs.Tables.{responseStarts, responseSizes, response-ruled, placed, small}
+use Rattle.names.proofs.Tables.{response-ruled, unpacked}
 use Rattle.names.proofs.Spells.{before-table, past-table, in-table}
 use Rattle.names.proofs.response_name.Statement.{statement}
 use Rattle.names.proofs.response_name.Tie as tie
@@ -19,19 +19,11 @@ returns-2 : tie.Need-returns-2
 unfolding responsePlace responses
 returns-2 c = rw (past-table 0x2000 (length responses) (c .before .before .args .code) (omega arith) (omega arith))
 
-cast-t9 : tie.Need-cast-t9
-unfolding responseStarts responseSizes
-cast-t9 c = let r = response-ruled (c .before .before .args .code - 0x2000) (omega arith) in record { fits = omega (arith, small r .0) }
-
-cast-t14 : tie.Need-cast-t14
-unfolding responseStarts responseSizes
-cast-t14 c = let r = response-ruled (c .before .before .args .code - 0x2000) (omega arith) in record { fits = omega (arith, small r .1) }
-
 returns-3 : tie.Need-returns-3
-unfolding responsePlace responses responseStarts responseSizes
+unfolding responsePlace responses
 returns-3 c =
-    let code = c .before .before .args .code in
-    rw (in-table 0x2000 (length responses) code (omega arith) (omega arith)) (ap some (placed (response-ruled (code - 0x2000) (omega arith))))
+    let code = c .before .before .before .args .code in
+    rw (in-table 0x2000 (length responses) code (omega arith) (omega arith)) (ap some (unpacked (response-ruled (code - 0x2000) (omega arith)) (c .response-entry .ensures)))
 
 pub response-name-spec : {M : Type 1} → statement M
 response-name-spec =
@@ -40,9 +32,7 @@ response-name-spec =
     returns
     (λ c. search needs)
     returns-2
+    (λ c κs. search needs)
     (λ c. search needs)
     (λ c. search needs)
-    cast-t9
-    (λ c. search needs)
-    cast-t14
     returns-3)
