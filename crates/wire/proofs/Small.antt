@@ -13,7 +13,7 @@ use Rattle.layout.specs.Bytes.{number, cells}
 use Rattle.layout.proofs.Reading.{number-front}
 use Rattle.wire.specs.Layout.{pairs}
 use Rattle.wire.specs.Utf8.{points, encoded, encodedAll, utf8, NoneAbove}
-use Rattle.wire.proofs.Texts.{cells-cons}
+use Rattle.wire.proofs.Texts.{cells-cons, cells-none}
 
 -- ── one by one ──
 
@@ -21,19 +21,20 @@ unit-is : (s : List ℕ) (o : ℕ) → o + 1 < length s → number (take 2 (drop
 unfolding number
 unit-is s o h = rw (number-front s o 1 (omega arith), number-front s (suc o) 0 (omega arith), add-one) (omega arith)
 
-module _ (s : List ℕ) (o left low high : ℕ) where
-  pub above-none : left ≤ 0 → NoneAbove low high (cells 2 left (drop o s))
-  unfolding cells
-  above-none h = go left h
-    where
-      go : (left : ℕ) → left ≤ 0 → NoneAbove low high (cells 2 left (drop o s))
-      go zero h = tt
-      go (suc left) h = absurd (not-suc-le-zero h)
+pub above-none : (s : List ℕ) (left low high : ℕ) → left ≤ 0 → NoneAbove low high (cells 2 left s)
+above-none s left low high h = rw (cells-none left s h) tt
 
-  module _ (some : 0 < left) (there : o + 1 < length s) where
-    pub above-cons :
-        getD s o 0 < 256 → getD s o 0 ≤ low → getD s (o + 1) 0 ≤ high → NoneAbove low high (cells 2 (left - 1) (drop (o + 2) s)) → NoneAbove low high (cells 2 left (drop o s))
-    above-cons b l h rest = rw (cells-cons left s o some, unit-is s o there) (omega arith, omega arith, rest)
+module _ (s : List ℕ) (o left : ℕ) (some : 0 < left) (there : o + 1 < length s) where
+  pub above-cons :
+      (low high : ℕ) → getD s o 0 < 256 → getD s o 0 ≤ low → getD s (o + 1) 0 ≤ high → NoneAbove low high (cells 2 (left - 1) (drop (o + 2) s)) → NoneAbove low high (cells 2 left (drop o s))
+  above-cons low high b l h rest = rw (cells-cons left s o some, unit-is s o there) (omega arith, omega arith, rest)
+
+  -- a unit below 0x80 is its low byte
+  pub ascii-cons : NoneAbove 0x7F 0 (cells 2 left (drop o s)) → (cells 2 left (drop o s) ≡ getD s o 0 ∷ cells 2 (left - 1) (drop (o + 2) s)) × NoneAbove 0x7F 0 (cells 2 (left - 1) (drop (o + 2) s))
+  ascii-cons a =
+      let b = rw (cells-cons left s o some, unit-is s o there) at a in
+      let low : getD s o 0 + 256 * getD s (o + 1) 0 ≡ getD s o 0 = omega (arith, b .0, b .1) in
+      (rw (cells-cons left s o some, unit-is s o there, low), b .2)
 
 pub above-more : {low high l h : ℕ} (us : List ℕ) → low ≤ l → high ≤ h → NoneAbove low high us → NoneAbove l h us
 above-more [] x y a = tt
@@ -46,3 +47,20 @@ unfolding pairs
 small-pairs p low high [] hp h a = rw (ne-eqb (p / 1024) 54 (λ e. omega arith))
 small-pairs p low high (u ∷ us) hp h a =
     rw (ne-eqb (p / 1024) 54 (λ e. omega arith), ne-eqb (u / 1024) 55 (λ e. omega arith)) (small-pairs u low high us (omega arith) h (a .2))
+
+-- ── below 0x80 they are their own UTF-8 ──
+
+ascii-points : (us : List ℕ) → NoneAbove 0x7F 0 us → points us ≡ us
+unfolding points
+ascii-points [] a = refl
+ascii-points (u ∷ []) a = refl
+ascii-points (u ∷ v ∷ us) a = rw (ne-eqb (u / 1024) 54 (λ e. omega arith), ascii-points (v ∷ us) (a .2))
+
+ascii-encoded : (us : List ℕ) → NoneAbove 0x7F 0 us → encodedAll us ≡ us
+unfolding encodedAll encoded
+ascii-encoded [] a = refl
+ascii-encoded (u ∷ us) a = rw (lt-ltb u 0x80 (omega arith), ascii-encoded us (a .2))
+
+pub ascii-utf8 : (us : List ℕ) → NoneAbove 0x7F 0 us → utf8 us ≡ us
+unfolding utf8
+ascii-utf8 us a = rw (ascii-points us a, ascii-encoded us a)

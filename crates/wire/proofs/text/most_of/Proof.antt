@@ -24,12 +24,12 @@ loop-again c =
     let s = l .before .before .args .s .now in
     (λ low high a b rest.
       l .loop .inv .0 low high (omega (arith, c .before .before .larger .ensures .0)) (omega (arith, c .larger2 .ensures .0))
-      (above-cons s (l .loop .o) _ low high (omega arith) (omega arith) (c .before .shared-slice-known3 .given (l .loop .o) .fits) (omega (arith, c .before .before .larger .ensures .1)) (omega (arith, c .larger2 .ensures .1)) rest), omega arith, omega arith)
+      (above-cons s (l .loop .o) (l .loop .left) (omega arith) (omega arith) low high (c .before .shared-slice-known3 .given (l .loop .o) .fits) (omega (arith, c .before .before .larger .ensures .1)) (omega (arith, c .larger2 .ensures .1)) rest), omega arith, omega arith)
 
 returns : tie.Need-returns Inv-loop μ-loop
 returns c =
     let l = c .before in
-    l .loop .inv .0 _ _ (le-refl _) (le-refl _) (above-none (l .before .before .args .s .now) (l .loop .o) _ _ _ (c .loop-test .left))
+    l .loop .inv .0 _ _ (le-refl _) (le-refl _) (above-none (drop (l .loop .o) (l .before .before .args .s .now)) _ _ _ (c .loop-test .left))
 
 pub most-of-spec : {M : Type 1} → statement M
 most-of-spec =
