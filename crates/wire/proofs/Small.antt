@@ -1,6 +1,6 @@
 -- Units whose bytes are small. With high bytes below those of surrogates they pair; below 0x80 their UTF-8 is themselves, and their low bytes.
 -- Assumes nothing.
-use mathlib.Core.Path.{_≡_, refl}
+use mathlib.Core.Path.{_≡_, refl, ap, _∙_}
 use mathlib.Core.Bool.{true}
 use mathlib.Core.List.{List, [], _∷_}
 use Prim.Native.Nat.{ℕ, zero, suc, _+_, _-_, _*_, _/_, _%_, _≤_, _<_}
@@ -13,6 +13,7 @@ use Rattle.layout.specs.Bytes.{number, cells}
 use Rattle.layout.proofs.Reading.{number-front}
 use Rattle.wire.specs.Layout.{pairs}
 use Rattle.wire.specs.Utf8.{points, encoded, encodedAll, utf8, NoneAbove}
+use Rattle.wire.proofs.Spelled.{length-cells}
 use Rattle.wire.proofs.Texts.{cells-cons, cells-none}
 
 -- ── one by one ──
@@ -64,3 +65,6 @@ ascii-encoded (u ∷ us) a = rw (lt-ltb u 0x80 (omega arith), ascii-encoded us (
 pub ascii-utf8 : (us : List ℕ) → NoneAbove 0x7F 0 us → utf8 us ≡ us
 unfolding utf8
 ascii-utf8 us a = rw (ascii-points us a, ascii-encoded us a)
+
+pub ascii-long : (n : ℕ) (s : List ℕ) → NoneAbove 0x7F 0 (cells 2 n s) → length (utf8 (cells 2 n s)) ≡ n
+ascii-long n s a = ap length (ascii-utf8 (cells 2 n s) a) ∙ length-cells 2 n s
