@@ -20,6 +20,7 @@ use Rattle.wire.specs.Layout.{high, paired}
 use Rattle.wire.specs.Places.{numAt, unitsAt, textAt, itemsIn}
 use Rattle.wire.specs.Utf8.{pairPoint, points, encoded, encodedAll, utf8, utf8At, Leads}
 use Rattle.wire.proofs.Spelled.{length-cells}
+use Rattle.wire.proofs.Texts.{cells-none}
 
 -- ── the first code point ──
 
@@ -114,9 +115,8 @@ unfolding utf8 encodedAll
 utf8-step l = rw (l .first)
 
 pub utf8-none : (s : List ℕ) (at left : ℕ) → left ≤ 0 → utf8 (cells 2 left (drop at s)) ≡ []
-unfolding utf8 encodedAll points cells
-utf8-none s at zero h = refl
-utf8-none s at (suc left) h = absurd (not-suc-le-zero h)
+unfolding utf8 encodedAll points
+utf8-none s at left h = rw (cells-none left (drop at s) h)
 
 -- ── the string at a place ──
 

@@ -1,4 +1,4 @@
-// Strings in UTF-8. Two passes: measure, then put.
+// Strings in UTF-8: read, measured, then put. Those of ASCII alone, which most are, go by loops that take many units at once.
 ghost use mathlib.Core.Path.{_≡_};
 ghost use Prim.Native.Nat.{_-_, _*_, _≤_, _<_};
 ghost use lib.Dec.{leb};
@@ -7,11 +7,12 @@ ghost use Rattle.layout.specs.Answer.{means};
 ghost use Rattle.layout.specs.Bytes.{number, cells};
 ghost use Rattle.layout.specs.Written.{Put, Wrote, saidOf, spelling, roomed, saysWritten};
 ghost use Rattle.wire.specs.Tidy.{saysMeasured};
-ghost use Rattle.wire.specs.Utf8.{encoded, utf8, utf8At, Leads};
+ghost use Rattle.wire.specs.Utf8.{encoded, utf8, utf8At, Leads, NoneAbove};
 use crate::Cursor;
 use crate::ReadPart;
 use crate::Span;
 use crate::field;
+use crate::text;
 use crate::write::Measured;
 use layout::Written;
 
@@ -75,6 +76,9 @@ fn units_len(s: &[u8], start: usize, count: usize) -> usize
     requires { ⌜ count * 2 ≤ length (now s) - start ⌝ }
     ensures { λ r. ⌜ r ≡ length (utf8 (cells 2 count (drop start (now (s .entry))))) ⌝ }
 {
+    if text::is_ascii(s, start, count) {
+        return count;
+    }
     let mut at = start;
     let mut left = count;
     let mut need: usize = 0;
@@ -103,11 +107,33 @@ fn has_room(s: &[u8], start: usize, count: usize, out: &[u8], o: usize) -> bool
     false
 }
 
+// Units below 0x80: of each its low byte.
+fn put_ascii(s: &[u8], start: usize, count: usize, out: &mut [u8], o: usize) -> usize
+    requires { ⌜ count * 2 ≤ length (now s) - start ⌝ }
+    requires { ⌜ NoneAbove 0x7F 0 (cells 2 count (drop start (now s))) ⌝ }
+    requires { ⌜ count ≤ length (now out) - o ⌝ }
+    ensures { λ r. ⌜ Put (now (out .entry)) o (utf8 (cells 2 count (drop start (now (s .entry))))) (now (out .exit)) r ⌝ }
+{
+    let mut at = start;
+    let mut left = count;
+    let mut next = o;
+    while 0 < left {
+        out[next] = s[at];
+        at += 2;
+        left -= 1;
+        next += 1;
+    }
+    next
+}
+
 fn put_units(s: &[u8], start: usize, count: usize, out: &mut [u8], o: usize) -> usize
     requires { ⌜ count * 2 ≤ length (now s) - start ⌝ }
     requires { ⌜ length (utf8 (cells 2 count (drop start (now s)))) ≤ length (now out) - o ⌝ }
     ensures { λ r. ⌜ Put (now (out .entry)) o (utf8 (cells 2 count (drop start (now (s .entry))))) (now (out .exit)) r ⌝ }
 {
+    if text::is_ascii(s, start, count) {
+        return put_ascii(s, start, count, out, o);
+    }
     let mut at = start;
     let mut left = count;
     let mut next = o;
@@ -162,14 +188,16 @@ impl Cursor {
     pub fn utf8(self, s: &[u8], out: &mut [u8]) -> Written
         ensures { λ r. ⌜ Wrote (saidOf (utf8At (now (s .entry)) (self .at))) (now (out .entry)) (saysWritten r) (now (out .exit)) ⌝ }
     {
-        match self.utf8_len(s) {
-            Measured::Whole { tidy, next: _ } => {
-                if out.len() < tidy {
+        match self.text(s) {
+            ReadPart::Got(part, _) => {
+                let start = part.start;
+                let count = part.count;
+                if !has_room(s, start, count, out, 0) {
                     return Written::Refused(layout::plain(9));
                 }
-                Written::Done(self.put_utf8(s, out, 0))
+                Written::Done(put_units(s, start, count, out, 0))
             }
-            Measured::Refused(f) => Written::Refused(f),
+            ReadPart::Refused(f) => Written::Refused(f),
         }
     }
 }

@@ -1,32 +1,56 @@
--- `wire::Cursor::utf8`: measured; refused, too long for the room, or put. Assumes nothing.
+-- `wire::Cursor::utf8`: the string is read; refused, too long for the room, or its units put. Assumes nothing.
+use mathlib.Core.Path.{ap, sym, _∙_}
 use native.Mathlib.Omega.{arith}
 use borrow.Author.Needs.{needs}
+use borrow.Author.Tests.{leb-true, leb-false, not-true, not-false}
 use denote.Ref.{now}
+use lib.ListN.{length}
+use Rattle.layout.specs.Written.{saidOf}
 use Rattle.layout.proofs.Reading.{heard}
-use Rattle.layout.proofs.Tidied.{said-got, said-refused}
-use Rattle.layout.proofs.Writing.{refusal, no-room, done, roomy}
-use Rattle.wire.specs.Tidy.{saysMeasured}
-use Rattle.wire.specs.Utf8.{utf8At}
+use Rattle.layout.proofs.Writing.{refusal, no-room, done}
+use Rattle.wire.specs.Places.{itemsIn}
+use Rattle.wire.specs.Says.{saysPart}
+use Rattle.wire.specs.Utf8.{utf8}
+use Rattle.wire.proofs.Spelled.{text-stood}
+use Rattle.wire.proofs.Points.{utf8-got, utf8-refused}
 use Rattle.wire.proofs.Cursor.utf8.Statement.{statement}
 use Rattle.wire.proofs.Cursor.utf8.Tie as tie
 
+has-room-requires : tie.Need-has-room-requires
+has-room-requires c κs =
+    let a = c .before .before .before .before .before .before .before .args in
+    text-stood (now (a .s)) (a .self .at) _ _ (heard saysPart (c .before .before .part .given .1) (c .before .before .before .before .text .ensures)) .fits
+
 returns : tie.Need-returns
+unfolding saidOf
 returns c =
-    let a = c .before .before .before .before .before .before .before .before .args in
-    let w = said-got (utf8At (now (a .s)) (a .self .at)) _ _ (heard saysMeasured (c .before .before .before .tidy .given .1) (c .before .before .before .before .before .utf8-len .ensures)) in
-    no-room (w .0) (omega arith) (c .plain .ensures)
+    let p = c .before .before .before .before .before in
+    let a = p .before .before .before .before .before .args in
+    let bytes = utf8 (itemsIn 2 (now (a .s)) (p .part .given .0 .0)) in
+    let long = leb-false (length bytes) _ (sym (c .before .before .has-room .ensures) ∙ not-true _ (c .before .if1 .taken)) in
+    no-room (ap saidOf (utf8-got (now (a .s)) (a .self .at) _ _ (heard saysPart (p .part .given .1) (p .before .before .text .ensures)))) (omega arith) (c .plain .ensures)
+
+put-units-requires : tie.Need-put-units-requires
+put-units-requires c κs =
+    let p = c .before .before .before .before .before in
+    let a = p .before .before .before .before .before .args in
+    (text-stood (now (a .s)) (a .self .at) _ _ (heard saysPart (p .part .given .1) (p .before .before .text .ensures)) .fits, leb-true _ _ (sym (c .before .before .has-room .ensures) ∙ not-false _ (c .before .if1 .left)))
 
 returns-2 : tie.Need-returns-2
+unfolding saidOf
 returns-2 c =
-    let t = c .before .before .before .before .before .before in
-    let a = t .before .before .before .before .before .args in
-    let w = said-got (utf8At (now (a .s)) (a .self .at)) _ _ (heard saysMeasured (t .tidy .given .1) (t .before .before .utf8-len .ensures)) in
-    done (w .0) (omega arith) (roomy _ (c .before .before .put-utf8 .ensures) (omega arith))
+    let i = c .before .before .before .before in
+    let p = i .before .before .before .before in
+    let a = p .before .before .before .before .before .args in
+    let bytes = utf8 (itemsIn 2 (now (a .s)) (p .part .given .0 .0)) in
+    let short = leb-true (length bytes) _ (sym (i .before .has-room .ensures) ∙ not-false _ (i .if1 .left)) in
+    done (ap saidOf (utf8-got (now (a .s)) (a .self .at) _ _ (heard saysPart (p .part .given .1) (p .before .before .text .ensures)))) (omega arith) (c .before .before .put-units .ensures)
 
 returns-3 : tie.Need-returns-3
+unfolding saidOf
 returns-3 c =
     let a = c .before .before .before .before .before .before .args in
-    refusal (said-refused (utf8At (now (a .s)) (a .self .at)) _ (heard saysMeasured (c .before .f .given .1) (c .before .before .before .utf8-len .ensures)))
+    refusal (ap saidOf (utf8-refused (now (a .s)) (a .self .at) _ (heard saysPart (c .before .f .given .1) (c .before .before .before .text .ensures))))
 
 pub utf8-spec : {M : Type 1} → statement M
 utf8-spec =
@@ -34,9 +58,11 @@ utf8-spec =
     (tie.spec
     (λ c κs. search needs)
     (λ c. search needs)
+    has-room-requires
     (λ c κs. search needs)
+    (λ c. search needs)
     returns
-    (λ c κs. search needs)
+    put-units-requires
     (λ c. search needs)
     (λ c. search needs)
     returns-2

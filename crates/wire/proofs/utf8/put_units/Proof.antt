@@ -1,4 +1,4 @@
--- `wire::utf8::put_units`: the loop owes the bytes of the units that are left. Assumes nothing.
+-- `wire::utf8::put_units`: below 0x80 at once; else the loop owes the bytes of the units that are left. Assumes nothing.
 use mathlib.Core.Path.{_≡_, refl, ap}
 use Prim.Native.Nat.{_≤_, _+_, _*_}
 use native.Mathlib.Omega.{arith}
@@ -8,6 +8,7 @@ use Rattle.layout.specs.Bytes.{cells}
 use Rattle.layout.proofs.Writing.{Owes, start, part, end, roomy}
 use Rattle.wire.specs.Utf8.{encoded, utf8}
 use Rattle.wire.proofs.Points.{utf8-step, utf8-none, encoded-stored}
+use Rattle.wire.proofs.Small.{ascii-long}
 use Rattle.wire.proofs.utf8.put_units.Statement.{statement}
 use Rattle.wire.proofs.utf8.put_units.Tie as tie
 
@@ -18,6 +19,12 @@ Inv-loop s start count out₀ o at₀ left₀ next₀ out at left next =
 abbrev μ-loop : tie.MeasureT-loop
 μ-loop s start count out₀ o at₀ left₀ next₀ out at left next = left
 
+put-ascii-requires : tie.Need-put-ascii-requires Inv-loop μ-loop
+put-ascii-requires c κs =
+    let k = c .before .before .before .before .before in
+    let a = c .before .before .is-ascii .ensures (c .before .if1 .taken) in
+    (k .pre .0, (a, omega (arith, ascii-long (k .args .count) (drop (k .args .start) (k .args .s .now)) a, k .pre .1)))
+
 loop-again : tie.Need-loop-again Inv-loop μ-loop
 loop-again c =
     let b = c .before .before .before in
@@ -25,7 +32,7 @@ loop-again c =
     let l = b .before .before .before .before .before .loop in
     let step = utf8-step (p .ensures) in
     let size = simp length-append at (ap length step) in
-    let pre = b .before .before .before .before .before .before .before .before .pre .1 in
+    let pre = b .before .before .before .before .before .before .before .before .before .before .pre .1 in
     let stored = rw (b .before .point-len .ensures .0, b .point-bytes .ensures, encoded-stored (p .result .value) (p .ensures .small)) at (c .before .before .store .ensures) in
     let written = roomy (encoded (p .result .value)) stored (omega (arith, l .inv .0 .place, l .inv .0 .long)) in
     (part step (l .inv .0) written, omega (arith, p .ensures .there), omega arith, omega (arith, written .place))
@@ -36,6 +43,10 @@ put-units-spec =
     (tie.spec
     Inv-loop
     μ-loop
+    (λ c κs. search needs)
+    put-ascii-requires
+    (λ c. search needs)
+    (λ c. c .before .before .put-ascii .ensures)
     (λ c. (start, refl, omega arith, omega arith))
     (λ c κs. search needs)
     (λ c κs. search needs)
@@ -47,4 +58,4 @@ put-units-spec =
     (λ c. omega arith)
     loop-again
     (λ c. c .before .loop .inv .0 .long)
-    (λ c. end (utf8-none (c .before .before .before .before .args .s .now) (c .before .loop .at) (c .before .loop .left) (c .loop-test .left)) (c .before .loop .inv .0)))
+    (λ c. end (utf8-none (c .before .before .before .before .before .before .args .s .now) (c .before .loop .at) (c .before .loop .left) (c .loop-test .left)) (c .before .loop .inv .0)))

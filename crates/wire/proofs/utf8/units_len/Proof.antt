@@ -1,5 +1,5 @@
--- `wire::utf8::units_len`: what was counted, and what is left to count, is all. Assumes nothing.
-use mathlib.Core.Path.{_≡_, ap}
+-- `wire::utf8::units_len`: below 0x80 a byte each; else what was counted, and what is left to count, is all. Assumes nothing.
+use mathlib.Core.Path.{_≡_, ap, sym}
 use Prim.Native.Nat.{_≤_, _+_, _*_}
 use native.Mathlib.Omega.{arith}
 use borrow.Author.Needs.{needs}
@@ -7,6 +7,7 @@ use lib.ListN.{length, drop, length-append}
 use Rattle.layout.specs.Bytes.{cells}
 use Rattle.wire.specs.Utf8.{utf8}
 use Rattle.wire.proofs.Points.{utf8-step, utf8-none}
+use Rattle.wire.proofs.Small.{ascii-long}
 use Rattle.wire.proofs.utf8.units_len.Statement.{statement}
 use Rattle.wire.proofs.utf8.units_len.Tie as tie
 
@@ -28,6 +29,8 @@ units-len-spec =
     (tie.spec
     Inv-loop
     μ-loop
+    (λ c κs. search needs)
+    (λ c. sym (ascii-long _ (drop (c .before .before .before .args .start) (c .before .before .before .args .s .now)) (c .before .is-ascii .ensures (c .if1 .taken))))
     (λ c. omega arith)
     (λ c κs. search needs)
     (λ c κs. search needs)
@@ -37,4 +40,4 @@ units-len-spec =
     (λ c. omega arith)
     (λ c. omega arith)
     loop-again
-    (λ c. omega (arith, ap length (utf8-none (c .before .before .before .args .s .now) (c .before .loop .at) (c .before .loop .left) (c .loop-test .left)))))
+    (λ c. omega (arith, ap length (utf8-none (c .before .before .before .before .before .args .s .now) (c .before .loop .at) (c .before .loop .left) (c .loop-test .left)))))
