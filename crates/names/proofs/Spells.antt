@@ -7,6 +7,7 @@ use mathlib.Core.Option.{Option, none, some}
 use Prim.Native.Nat.{ℕ, zero, suc, _-_, _≤_, _<_}
 use Prim.Native.String.{String}
 use native.Mathlib.Nat.{not-suc-le-zero, le-of-suc-le-suc}
+use native.Mathlib.Omega.{arith}
 use borrow.Author.Tests.{ltb-true, le-ltb, lt-ltb, le-leb, lt-leb}
 use lib.Dec.{leb, ltb}
 use lib.ListN.{length, take, drop, length-append}
@@ -69,17 +70,17 @@ command-spells code =
     entered 0x1000 (length commands) code (λ e. given bytesAt (given (placeAt (length (joined responses)) commands) e) ≡ given (nameAt commands) e) refl
     λ k h. ap some (rw append-nil at (stands (joined responses) commands k [] h))
 
-pub response-within : (code : ℕ) → Within (responsePlace code)
+pub response-within : (code : ℕ) → Within 0 (length (joined responses)) (responsePlace code)
 unfolding responsePlace responses
 response-within code =
-    entered 0x2000 (length responses) code (λ e. Within (given (placeAt 0 responses) e)) tt
-    λ k h. response-ruled k h .inside
+    entered 0x2000 (length responses) code (λ e. Within 0 (length (joined responses)) (given (placeAt 0 responses) e)) tt
+    λ k h. (omega arith, response-ruled k h .inside)
 
-pub command-within : (code : ℕ) → Within (commandPlace code)
+pub command-within : (code : ℕ) → Within (length (joined responses)) (length (joined commands)) (commandPlace code)
 unfolding commandPlace commands
 command-within code =
-    entered 0x1000 (length commands) code (λ e. Within (given (placeAt (length (joined responses)) commands) e)) tt
-    λ k h. command-ruled k h .inside
+    entered 0x1000 (length commands) code (λ e. Within (length (joined responses)) (length (joined commands)) (given (placeAt (length (joined responses)) commands) e)) tt
+    λ k h. (omega arith, command-ruled k h .inside)
 
 -- a name has at most 37 bytes
 abbrev pub Short : Option (List ℕ) → Type 0

@@ -1,5 +1,5 @@
 -- The rule of each table, proved at all of its entries by one test that is computed: an entry is the place of the paper's name
--- with the names before it end to end, and lies within the name bytes.
+-- with the names before it end to end, and lies within the bytes of its kind's names.
 -- Assumes nothing.
 use mathlib.Core.Path.{_≡_, refl, ap, sym, _∙_}
 use mathlib.Core.Bool.{Bool, true, false}
@@ -11,7 +11,7 @@ use native.Mathlib.Nat.{not-suc-le-zero}
 use borrow.Author.Tests.{eqb-true, eqb-false}
 use lib.Dec.{T, eqb, leb, eqb→eq, leb→le}
 use lib.ListN.{length, getD}
-use Rattle.names.specs.Names.{responses, commands, joined, nameBytes, placeAt, packed}
+use Rattle.names.specs.Names.{responses, commands, joined, placeAt, packed}
 
 -- ── the tables of the code ──
 
@@ -54,13 +54,13 @@ each test (suc n) t k h = go (eqb k n) refl (each test n (both-right (test n) (b
 
 pub record Ruled (first : ℕ) (names : List String) (table : List ℕ) (k : ℕ) : Type 0 where
   pub place : getD table k 0 ≡ packed (placeAt first names k)
-  pub inside : placeAt first names k .0 + placeAt first names k .1 ≤ length nameBytes
+  pub inside : placeAt first names k .0 + placeAt first names k .1 ≤ first + length (joined names)
   pub short : placeAt first names k .1 ≤ 37
 
 ruled? : ℕ → List String → List ℕ → ℕ → Bool
 ruled? first names table k =
     let p = placeAt first names k in
-    both (eqb (getD table k 0) (packed p)) (both (leb (p .0 + p .1) (length nameBytes)) (leb (p .1) 37))
+    both (eqb (getD table k 0) (packed p)) (both (leb (p .0 + p .1) (first + length (joined names))) (leb (p .1) 37))
 
 all-three : (a b c : Bool) → T (both a (both b c)) → T a × T b × T c
 all-three a b c t = let u = both-right a (both b c) t in (both-left a (both b c) t, both-left b c u, both-right b c u)
@@ -70,15 +70,15 @@ kept : (first : ℕ) (names : List String) (table : List ℕ) (k : ℕ) → T (r
 unfolding ruled?
 kept first names table k t =
     let p = placeAt first names k in
-    let f = all-three (eqb (getD table k 0) (packed p)) (leb (p .0 + p .1) (length nameBytes)) (leb (p .1) 37) t in
-    record { place = eqb→eq (getD table k 0) (packed p) (f .0); inside = leb→le (p .0 + p .1) (length nameBytes) (f .1); short = leb→le (p .1) 37 (f .2) }
+    let f = all-three (eqb (getD table k 0) (packed p)) (leb (p .0 + p .1) (first + length (joined names))) (leb (p .1) 37) t in
+    record { place = eqb→eq (getD table k 0) (packed p) (f .0); inside = leb→le (p .0 + p .1) (first + length (joined names)) (f .1); short = leb→le (p .1) 37 (f .2) }
 
 pub response-ruled : (k : ℕ) → k < 33 → Ruled 0 responses responseTable k
-unfolding responses commands responseTable nameBytes below both ruled?
+unfolding responses responseTable below both ruled?
 response-ruled k h = kept 0 responses responseTable k (each (ruled? 0 responses responseTable) 33 tt k h)
 
 pub command-ruled : (k : ℕ) → k < 29 → Ruled (length (joined responses)) commands commandTable k
-unfolding responses commands commandTable nameBytes below both ruled?
+unfolding responses commands commandTable below both ruled?
 command-ruled k h = kept (length (joined responses)) commands commandTable k (each (ruled? (length (joined responses)) commands commandTable) 29 tt k h)
 
 -- an entry by its number, and taken apart

@@ -1,7 +1,7 @@
 // The names of response and command codes. What they are stands in specs/Names.antt.
 ghost use mathlib.Core.Path.{_≡_};
 ghost use Prim.Native.Nat.{_<_};
-ghost use lib.ListN.{length};
+ghost use lib.ListN.{length, take, drop};
 ghost use Rattle.names.specs.Names.{responses, commands, joined, nameBytes, placeAt, packed, responseName, commandName, responsePlace, commandPlace, given};
 ghost use Rattle.names.specs.Says.{saysName, saysNamed, bytesAt, Within, WroteName};
 use layout::Refusal;
@@ -20,14 +20,16 @@ pub enum Named {
 }
 
 // The names end to end: the responses', then the commands'.
-const NAMES: [u8; 975] = *b"\
+const RESPONSE_NAMES: [u8; 587] = *b"\
     UndefinedOkGeneralErrorSessionNotOpenInvalidTransactionIdOperationNotSupportedParameterNotSupported\
     IncompleteTransferInvalidStorageIdInvalidObjectHandleDevicePropNotSupportedInvalidObjectFormatCode\
     StoreFullObjectWriteProtectedStoreReadOnlyAccessDeniedNoThumbnailPresentSelfTestFailed\
     PartialDeletionStoreNotAvailableSpecificationByFormatUnsupportedNoValidObjectInfoInvalidCodeFormat\
     UnknownVendorCodeCaptureAlreadyTerminatedDeviceBusyInvalidParentObjectInvalidDevicePropFormat\
     InvalidDevicePropValueInvalidParameterSessionAlreadyOpenTransactionCancelled\
-    SpecificationOfDestinationUnsupported\
+    SpecificationOfDestinationUnsupported";
+
+const COMMAND_NAMES: [u8; 388] = *b"\
     UndefinedGetDeviceInfoOpenSessionCloseSessionGetStorageIDsGetStorageInfoGetNumObjects\
     GetObjectHandlesGetObjectInfoGetObjectGetThumbDeleteObjectSendObjectInfoSendObjectInitiateCapture\
     FormatStoreResetDeviceSelfTestSetObjectProtectionPowerDownGetDevicePropDescGetDevicePropValue\
@@ -188,7 +190,10 @@ fn command_entry(k: usize) -> u16
 pub fn name_bytes() -> [u8; 975]
     ensures { λ r. ⌜ r ≡ nameBytes ⌝ }
 {
-    NAMES
+    let mut all = [0u8; 975];
+    let n = layout::copy(&RESPONSE_NAMES, 0, 587, &mut all, 0);
+    layout::copy(&COMMAND_NAMES, 0, 388, &mut all, n);
+    all
 }
 
 pub fn response_name(code: u16) -> Name
@@ -225,8 +230,10 @@ pub fn command_name(code: u16) -> Name
     }
 }
 
-fn write_name(name: Name, out: &mut [u8]) -> Named
-    requires { ⌜ Within (saysName name) ⌝ }
+// The name at a place. Of the name bytes only those of its kind are lent, which begin at `first`.
+fn write_name(name: Name, names: &[u8], first: usize, out: &mut [u8]) -> Named
+    requires { ⌜ now names ≡ take (length (now names)) (drop first nameBytes) ⌝ }
+    requires { ⌜ Within first (length (now names)) (saysName name) ⌝ }
     ensures { λ r. ⌜ WroteName (given bytesAt (saysName name)) (now (out .entry)) (saysNamed r) (now (out .exit)) ⌝ }
 {
     match name {
@@ -235,8 +242,7 @@ fn write_name(name: Name, out: &mut [u8]) -> Named
             if out.len() < len {
                 return Named::Refused(layout::plain(9));
             }
-            let names = name_bytes();
-            Named::Done(layout::copy(&names, start, len, out, 0))
+            Named::Done(layout::copy(names, start - first, len, out, 0))
         }
     }
 }
@@ -244,11 +250,11 @@ fn write_name(name: Name, out: &mut [u8]) -> Named
 pub fn write_response_name(code: u16, out: &mut [u8]) -> Named
     ensures { λ r. ⌜ WroteName (responseName code) (now (out .entry)) (saysNamed r) (now (out .exit)) ⌝ }
 {
-    write_name(response_name(code), out)
+    write_name(response_name(code), &RESPONSE_NAMES, 0, out)
 }
 
 pub fn write_command_name(code: u16, out: &mut [u8]) -> Named
     ensures { λ r. ⌜ WroteName (commandName code) (now (out .entry)) (saysNamed r) (now (out .exit)) ⌝ }
 {
-    write_name(command_name(code), out)
+    write_name(command_name(code), &COMMAND_NAMES, 587, out)
 }
