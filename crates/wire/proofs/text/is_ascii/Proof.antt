@@ -15,7 +15,7 @@ is-ascii-spec =
     (tie.spec
     (λ c κs. search needs)
     (λ c e.
-      let m = c .before .before .before .most-of in
-      let a = c .before .before .before .before .before .args in
-      above-more (cells 2 (a .n) (drop (a .at) (a .s .now))) (omega (arith, ltb-true (m .result .low) 0x80 e)) (omega arith) (m .ensures))
+    let m = c .before .before .before .most-of in
+    let a = c .before .before .before .before .before .args in
+    above-more (cells 2 (a .n) (drop (a .at) (a .s .now))) (omega (arith, ltb-true (m .result .low) 0x80 e)) (omega arith) (m .ensures))
     (λ c e. zero-one (cc)))

@@ -21,10 +21,13 @@ abbrev μ-loop : tie.MeasureT-loop
 loop-again : tie.Need-loop-again Inv-loop μ-loop
 loop-again c =
     let l = c .before .before .before .before .before in
-    let s = l .before .before .args .s .now in
-    (λ low high a b rest.
-      l .loop .inv .0 low high (omega (arith, c .before .before .larger .ensures .0)) (omega (arith, c .larger2 .ensures .0))
-      (above-cons s (l .loop .o) (l .loop .left) (omega arith) (omega arith) low high (c .before .shared-slice-known3 .given (l .loop .o) .fits) (omega (arith, c .before .before .larger .ensures .1)) (omega (arith, c .larger2 .ensures .1)) rest), omega arith, omega arith)
+    let s = l .before .before .args .s .now in (
+      λ low high a b rest.
+          l .loop .inv .0 low high (omega (arith, c .before .before .larger .ensures .0)) (omega (arith, c .larger2 .ensures .0))
+          (above-cons s (l .loop .o) (l .loop .left) (omega arith) (omega arith) low high (c .before .shared-slice-known3 .given (l .loop .o) .fits) (omega (arith, c .before .before .larger .ensures .1)) (omega (arith, c .larger2 .ensures .1)) rest),
+      omega arith,
+      omega arith,
+    )
 
 returns : tie.Need-returns Inv-loop μ-loop
 returns c =
