@@ -39,11 +39,11 @@ utf8 us = encodedAll (points us)
 unfoldable pub utf8At : Reader (List ℕ)
 utf8At s at = means (λ p. utf8 (itemsIn 2 s p)) (textAt s at)
 
--- ── inside: no unit has a low byte or a high byte above these ──
+-- ── inside: units that are small ──
 
-abbrev pub NoneAbove : ℕ → ℕ → List ℕ → Type 0
-NoneAbove low high [] = Unit {0}
-NoneAbove low high (u ∷ us) = (u % 256 ≤ low) × (u / 256 ≤ high) × NoneAbove low high us
+abbrev pub NoneAbove : ℕ → List ℕ → Type 0
+NoneAbove m [] = Unit {0}
+NoneAbove m (u ∷ us) = (u ≤ m) × NoneAbove m us
 
 -- ── inside: the first code point of the units that are left, and how many units it takes ──
 

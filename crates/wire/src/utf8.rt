@@ -110,7 +110,7 @@ fn has_room(s: &[u8], start: usize, count: usize, out: &[u8], o: usize) -> bool
 // Units below 0x80: of each its low byte.
 fn put_ascii(s: &[u8], start: usize, count: usize, out: &mut [u8], o: usize) -> usize
     requires { ⌜ count * 2 ≤ length (now s) - start ⌝ }
-    requires { ⌜ NoneAbove 0x7F 0 (cells 2 count (drop start (now s))) ⌝ }
+    requires { ⌜ NoneAbove 0x7F (cells 2 count (drop start (now s))) ⌝ }
     requires { ⌜ count ≤ length (now out) - o ⌝ }
     ensures { λ r. ⌜ Put (now (out .entry)) o (utf8 (cells 2 count (drop start (now (s .entry))))) (now (out .exit)) r ⌝ }
 {

@@ -1,10 +1,9 @@
--- `wire::text::is_ascii`: no high byte above 0, and no low one above 0x7F. Assumes nothing.
+-- `wire::text::is_ascii`: the largest is below 0x80. Assumes nothing.
 use native.Mathlib.Omega.{arith}
 use borrow.Author.Needs.{needs}
 use borrow.Author.Tests.{ltb-true}
 use lib.ListN.{drop}
 use Rattle.layout.specs.Bytes.{cells}
-use Rattle.layout.proofs.Tidied.{zero-one}
 use Rattle.wire.proofs.Small.{above-more}
 use Rattle.wire.proofs.text.is_ascii.Statement.{statement}
 use Rattle.wire.proofs.text.is_ascii.Tie as tie
@@ -14,8 +13,4 @@ is-ascii-spec =
     tie.close
     (tie.spec
     (λ c κs. search needs)
-    (λ c e.
-      let m = c .before .before .before .most-of in
-      let a = c .before .before .before .before .before .args in
-      above-more (cells 2 (a .n) (drop (a .at) (a .s .now))) (omega (arith, ltb-true (m .result .low) 0x80 e)) (omega arith) (m .ensures))
-    (λ c e. zero-one (cc)))
+    (λ c e. above-more (cells 2 (c .before .before .args .n) (drop (c .before .before .args .at) (c .before .before .args .s .now))) (omega (arith, ltb-true (c .largest .result) 0x80 e)) (c .largest .ensures)))

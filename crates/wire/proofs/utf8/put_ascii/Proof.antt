@@ -13,7 +13,7 @@ use Rattle.wire.proofs.utf8.put_ascii.Tie as tie
 
 abbrev Inv-loop : tie.InvT-loop
 Inv-loop s start count out₀ o at₀ left₀ next₀ out at left next =
-    Owes out next (cells 2 left (drop at s)) out₀ o (cells 2 count (drop start s)) × NoneAbove 0x7F 0 (cells 2 left (drop at s)) × (at + left * 2 ≡ start + count * 2) × (left ≤ count) × (next + left ≡ o + count)
+    Owes out next (cells 2 left (drop at s)) out₀ o (cells 2 count (drop start s)) × NoneAbove 0x7F (cells 2 left (drop at s)) × (at + left * 2 ≡ start + count * 2) × (left ≤ count) × (next + left ≡ o + count)
 
 abbrev μ-loop : tie.MeasureT-loop
 μ-loop s start count out₀ o at₀ left₀ next₀ out at left next = left
