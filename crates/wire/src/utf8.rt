@@ -107,7 +107,7 @@ fn has_room(s: &[u8], start: usize, count: usize, out: &[u8], o: usize) -> bool
     false
 }
 
-// Units below 0x80: of each its low byte.
+// Units below 0x80: of each its low byte. The high one is 0, and added so that the loop reads all bytes: then the compiler takes many units at once.
 fn put_ascii(s: &[u8], start: usize, count: usize, out: &mut [u8], o: usize) -> usize
     requires { ⌜ count * 2 ≤ length (now s) - start ⌝ }
     requires { ⌜ NoneAbove 0x7F (cells 2 count (drop start (now s))) ⌝ }
@@ -118,7 +118,7 @@ fn put_ascii(s: &[u8], start: usize, count: usize, out: &mut [u8], o: usize) -> 
     let mut left = count;
     let mut next = o;
     while 0 < left {
-        out[next] = s[at];
+        out[next] = s[at] + s[at + 1];
         at += 2;
         left -= 1;
         next += 1;
