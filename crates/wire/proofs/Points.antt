@@ -12,7 +12,7 @@ use lib.ListN.{length, take, drop, length-append}
 use lib.Seq.{drop-drop}
 use Rattle.layout.specs.Answer.{Told, Answer, got, refused, pick, after, means, badText, spanAt, fieldAt}
 use Rattle.layout.specs.Bytes.{Bytes, bytes, number, cells}
-use Rattle.layout.specs.Written.{spelling}
+use Rattle.layout.specs.Written.{Put, roomed, spelling}
 use Rattle.layout.proofs.Numbers.{Bytes-drop, bytes-number}
 use Rattle.layout.proofs.Tidied.{zero-one}
 use Rattle.wire.specs.declared.Part.{Part}
@@ -98,7 +98,7 @@ encoded-few c = go (encoding c)
     go four = omega arith
 
 -- as a number and back
-pub encoded-stored : (c : ℕ) → c < 0x110000 → bytes (length (encoded c)) (number (encoded c)) ≡ encoded c
+encoded-stored : (c : ℕ) → c < 0x110000 → bytes (length (encoded c)) (number (encoded c)) ≡ encoded c
 encoded-stored c small = bytes-number (encoded c) (go (encoding c))
   where
     go : {l : List ℕ} → Encoded c l → Bytes l
@@ -106,6 +106,10 @@ encoded-stored c small = bytes-number (encoded c) (go (encoding c))
     go (two h) = (omega arith, (omega arith, tt))
     go (three h) = (omega arith, (omega arith, (omega arith, tt)))
     go four = (omega arith, (omega arith, (omega arith, (omega arith, tt))))
+
+pub point-put : {old new : List ℕ} {o next k x : ℕ} (c : ℕ) → c < 0x110000 → k ≡ length (encoded c) → x ≡ number (encoded c)
+    → Put old o (roomed old o (bytes k x)) new next → Put old o (roomed old o (encoded c)) new next
+point-put c small e f p = rw (e, f, encoded-stored c small) at p
 
 -- ── what is left to write ──
 

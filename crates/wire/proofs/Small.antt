@@ -28,12 +28,18 @@ module _ (s : List ℕ) (o left : ℕ) (some : 0 < left) (there : o + 1 < length
   pub above-cons : (m : ℕ) → getD s o 0 + 256 * getD s (o + 1) 0 ≤ m → NoneAbove m (cells 2 (left - 1) (drop (o + 2) s)) → NoneAbove m (cells 2 left (drop o s))
   above-cons m h rest = rw (cells-cons left s o some, unit-is s o there) (h, rest)
 
-  -- a unit below 0x80 is its low byte
-  pub ascii-cons : NoneAbove 0x7F (cells 2 left (drop o s)) → (cells 2 left (drop o s) ≡ getD s o 0 ∷ cells 2 (left - 1) (drop (o + 2) s)) × NoneAbove 0x7F (cells 2 (left - 1) (drop (o + 2) s))
-  ascii-cons a =
-      let b = rw (cells-cons left s o some, unit-is s o there) at a in
-      let low : getD s o 0 + 256 * getD s (o + 1) 0 ≡ getD s o 0 = omega (arith, b .0) in
-      (rw (cells-cons left s o some, unit-is s o there, low), b .1)
+  module _ (a : NoneAbove 0x7F (cells 2 left (drop o s))) where
+    -- a unit below 0x80 is its low byte, for its high byte is 0
+    pub ascii-byte : getD s o 0 + 256 * getD s (o + 1) 0 ≤ 0x7F
+    ascii-byte = (rw (cells-cons left s o some, unit-is s o there) at a) .0
+
+    pub ascii-cons : cells 2 left (drop o s) ≡ (getD s o 0 + getD s (o + 1) 0) ∷ cells 2 (left - 1) (drop (o + 2) s)
+    ascii-cons =
+        let low : getD s o 0 + 256 * getD s (o + 1) 0 ≡ getD s o 0 + getD s (o + 1) 0 = omega (arith, ascii-byte) in
+        rw (cells-cons left s o some, unit-is s o there, low)
+
+    pub ascii-rest : NoneAbove 0x7F (cells 2 (left - 1) (drop (o + 2) s))
+    ascii-rest = (rw (cells-cons left s o some) at a) .1
 
 pub above-more : {m k : ℕ} (us : List ℕ) → m ≤ k → NoneAbove m us → NoneAbove k us
 above-more [] h a = tt

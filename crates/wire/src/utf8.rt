@@ -72,6 +72,20 @@ fn point_bytes(c: u64) -> u64
     0xF0 + c / 262144 + 0x100 * (0x80 + c / 4096 % 64) + 0x10000 * third + 0x1000000 * last
 }
 
+// Each length has a store of its own, whose loop the compiler unrolls.
+fn put_point(c: u64, out: &mut [u8], o: usize) -> usize
+    requires { ⌜ c < 0x110000 ⌝ }
+    ensures { λ r. ⌜ Put (now (out .entry)) o (roomed (now (out .entry)) o (encoded c)) (now (out .exit)) r ⌝ }
+{
+    let x = point_bytes(c);
+    match point_len(c) {
+        1 => layout::store(out, o, 1, x),
+        2 => layout::store(out, o, 2, x),
+        3 => layout::store(out, o, 3, x),
+        n => layout::store(out, o, n, x),
+    }
+}
+
 fn units_len(s: &[u8], start: usize, count: usize) -> usize
     requires { ⌜ count * 2 ≤ length (now s) - start ⌝ }
     ensures { λ r. ⌜ r ≡ length (utf8 (cells 2 count (drop start (now (s .entry))))) ⌝ }
@@ -107,7 +121,7 @@ fn has_room(s: &[u8], start: usize, count: usize, out: &[u8], o: usize) -> bool
     false
 }
 
-// Units below 0x80: of each its low byte.
+// Units below 0x80: of each its low byte. The high one is 0, and added so that the loop reads all bytes: then the compiler takes many units at once.
 fn put_ascii(s: &[u8], start: usize, count: usize, out: &mut [u8], o: usize) -> usize
     requires { ⌜ count * 2 ≤ length (now s) - start ⌝ }
     requires { ⌜ NoneAbove 0x7F (cells 2 count (drop start (now s))) ⌝ }
@@ -118,7 +132,7 @@ fn put_ascii(s: &[u8], start: usize, count: usize, out: &mut [u8], o: usize) -> 
     let mut left = count;
     let mut next = o;
     while 0 < left {
-        out[next] = s[at];
+        out[next] = s[at] + s[at + 1];
         at += 2;
         left -= 1;
         next += 1;
@@ -141,7 +155,7 @@ fn put_units(s: &[u8], start: usize, count: usize, out: &mut [u8], o: usize) -> 
         let p = point_at(s, at, left);
         let value = p.value;
         let units = p.units;
-        next = layout::store(out, next, point_len(value), point_bytes(value));
+        next = put_point(value, out, next);
         at += units * 2;
         left -= units;
     }

@@ -1,13 +1,13 @@
--- `wire::utf8::put_ascii`: the loop owes the units that are left, each of which is its low byte. Assumes nothing.
+-- `wire::utf8::put_ascii`: the loop owes the units that are left, each of which is the sum of its bytes. Assumes nothing.
 use mathlib.Core.Path.{_≡_, refl}
-use Prim.Native.Nat.{_≤_, _+_, _*_}
+use Prim.Native.Nat.{_≤_, _<_, _+_, _*_}
 use native.Mathlib.Omega.{arith}
-use lib.ListN.{drop}
+use lib.ListN.{length, drop}
 use Rattle.layout.specs.Bytes.{cells}
 use Rattle.layout.proofs.Writing.{Owes, start, byte, end}
 use Rattle.wire.specs.Utf8.{NoneAbove}
 use Rattle.wire.proofs.Texts.{cells-none}
-use Rattle.wire.proofs.Small.{ascii-cons, ascii-utf8}
+use Rattle.wire.proofs.Small.{ascii-byte, ascii-cons, ascii-rest, ascii-utf8}
 use Rattle.wire.proofs.utf8.put_ascii.Statement.{statement}
 use Rattle.wire.proofs.utf8.put_ascii.Tie as tie
 
@@ -18,11 +18,18 @@ Inv-loop s start count out₀ o at₀ left₀ next₀ out at left next =
 abbrev μ-loop : tie.MeasureT-loop
 μ-loop s start count out₀ o at₀ left₀ next₀ out at left next = left
 
+add-out-2 : tie.Need-add-out-2 Inv-loop μ-loop
+add-out-2 c =
+    let l = c .before .before .before in
+    omega (arith, ascii-byte (l .before .args .s .now) (l .loop .at) (l .loop .left) (c .before .before .loop-test .taken) (omega arith) (l .loop .inv .1))
+
 loop-again : tie.Need-loop-again Inv-loop μ-loop
 loop-again c =
-    let l = c .before .before in
-    let step = ascii-cons (l .before .args .s .now) (l .loop .at) (l .loop .left) (c .before .loop-test .taken) (omega arith) (l .loop .inv .1) in
-    (byte (step .0) (l .loop .inv .0), step .1, omega arith, omega arith, omega arith)
+    let l = c .before .before .before in
+    let s = l .before .args .s .now in
+    let there : l .loop .at + 1 < length s = omega arith in
+    let some = c .before .before .loop-test .taken in
+    (byte (ascii-cons s (l .loop .at) (l .loop .left) some there (l .loop .inv .1)) (l .loop .inv .0), ascii-rest s (l .loop .at) (l .loop .left) some there (l .loop .inv .1), omega arith, omega arith, omega arith)
 
 returns : tie.Need-returns Inv-loop μ-loop
 returns c =
@@ -38,6 +45,9 @@ put-ascii-spec =
     μ-loop
     (λ c. (start, c .pre .1 .0, refl, omega arith, refl))
     (λ c. omega arith)
+    (λ c. omega arith)
+    (λ c. omega arith)
+    add-out-2
     (λ c. omega arith)
     (λ c. omega arith)
     (λ c. omega arith)

@@ -7,7 +7,7 @@ use lib.ListN.{length, drop, length-append}
 use Rattle.layout.specs.Bytes.{cells}
 use Rattle.layout.proofs.Writing.{Owes, start, part, end, roomy}
 use Rattle.wire.specs.Utf8.{encoded, utf8}
-use Rattle.wire.proofs.Points.{utf8-step, utf8-none, encoded-stored}
+use Rattle.wire.proofs.Points.{utf8-step, utf8-none}
 use Rattle.wire.proofs.Small.{ascii-long}
 use Rattle.wire.proofs.utf8.put_units.Statement.{statement}
 use Rattle.wire.proofs.utf8.put_units.Tie as tie
@@ -27,15 +27,13 @@ put-ascii-requires c κs =
 
 loop-again : tie.Need-loop-again Inv-loop μ-loop
 loop-again c =
-    let b = c .before .before .before in
-    let p = b .before .before .before .point-at in
-    let l = b .before .before .before .before .before .loop in
+    let p = c .before .before .before .before .point-at in
+    let b = c .before .before .before .before .before .before in
     let step = utf8-step (p .ensures) in
     let size = simp length-append at (ap length step) in
-    let pre = b .before .before .before .before .before .before .before .before .before .before .pre .1 in
-    let stored = rw (b .before .point-len .ensures .0, b .point-bytes .ensures, encoded-stored (p .result .value) (p .ensures .small)) at (c .before .before .store .ensures) in
-    let written = roomy (encoded (p .result .value)) stored (omega (arith, l .inv .0 .place, l .inv .0 .long)) in
-    (part step (l .inv .0) written, omega (arith, p .ensures .there), omega arith, omega (arith, written .place))
+    let pre = b .before .before .before .before .before .pre .1 in
+    let written = roomy (encoded (p .result .value)) (c .before .before .put-point .ensures) (omega (arith, b .loop .inv .0 .place, b .loop .inv .0 .long)) in
+    (part step (b .loop .inv .0) written, omega (arith, p .ensures .there), omega arith, omega (arith, written .place))
 
 pub put-units-spec : {M : Type 1} → statement M
 put-units-spec =
@@ -48,8 +46,6 @@ put-units-spec =
     (λ c. search needs)
     (λ c. c .before .before .put-ascii .ensures)
     (λ c. (start, refl, omega arith, omega arith))
-    (λ c κs. search needs)
-    (λ c κs. search needs)
     (λ c κs. search needs)
     (λ c κs. search needs)
     (λ c. omega arith)
