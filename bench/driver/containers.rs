@@ -71,14 +71,14 @@ mod containers {
         accepted(numbers(bench_header, &data, &mut fields));
         assert_eq!(fields[1..5], [2, theirs.code as u64, theirs.tid as u64, theirs.payload_len as u64]);
         line("container header", 1,
-             side(|| { black_box(numbers(bench_header, black_box(&data), black_box(&mut fields))); }),
+             side(|| { black_box(numbers(bench_header, black_box(&data), &mut fields)); }),
              Some(side(|| { black_box(parse(black_box(&data)).is_ok()); })));
 
         accepted(find_answer(&buffer, NUMBER, &mut fields));
         assert_eq!(fields[..4], [buffer.len() as u64, 0x2001, 12, 1024]);
         scripted(1, &data, &response, |camera| assert_eq!(phases(camera).expect("a payload"), payload));
         line("answer of 1 KiB, found", 1,
-             side(|| { black_box(find_answer(black_box(&buffer), NUMBER, black_box(&mut fields))); }),
+             side(|| { black_box(find_answer(black_box(&buffer), NUMBER, &mut fields)); }),
              Some(Box::new(|times| {
                  scripted(times, &data, &response, |camera| { black_box(phases(camera).is_ok()); })
                      - scripted(times, &data, &response, |camera| transfers(camera, &[], &mut room))
@@ -96,8 +96,8 @@ mod containers {
         let mut room = vec![0u8; 8192];
         line("command made, its answer of 1 KiB found", 1,
              side(|| {
-                 black_box(make_command(NUMBER, code, black_box(&[17]), black_box(&mut out)));
-                 black_box(find_answer(black_box(&buffer), NUMBER, black_box(&mut fields)));
+                 black_box(make_command(NUMBER, code, black_box(&[17]), &mut out));
+                 black_box(find_answer(black_box(&buffer), NUMBER, &mut fields));
              }),
              Some(Box::new(|times| {
                  scripted(times, &data, &response, |camera| { black_box(camera.command(code, black_box(&[17]), None, None).is_ok()); })

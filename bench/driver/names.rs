@@ -28,7 +28,7 @@ mod names {
                  Some(side(|| for &code in &codes { black_box(their(black_box(code))); })));
             let mut copy = out.clone();
             line(written, codes.len(),
-                 side(|| for &code in &codes { black_box(spelling(spell, black_box(code), black_box(&mut out))); }),
+                 side(|| for &code in &codes { black_box(spelling(spell, black_box(code), &mut out)); }),
                  Some(side(|| for &code in &codes {
                      let name = their(black_box(code)).unwrap_or("");
                      black_box(&mut copy)[..name.len()].copy_from_slice(name.as_bytes());

@@ -22,7 +22,7 @@ mod records {
                    [device.len() as u64, theirs.OperationsSupported.len() as u64, theirs.SerialNumber.len() as u64]);
         let decode = black_box(PtpDeviceInfo::decode as fn(&[u8]) -> Result<PtpDeviceInfo, Error>);
         line("device record, 60 operations", 1,
-             side(|| { black_box(numbers(ptp_device_info, black_box(&device), black_box(&mut fields))); }),
+             side(|| { black_box(numbers(ptp_device_info, black_box(&device), &mut fields)); }),
              Some(side(|| { black_box(decode(black_box(&device)).is_ok()); })));
 
         let theirs = PtpObjectInfo::decode(&object).expect("an object record");
@@ -31,7 +31,7 @@ mod records {
                    [object.len() as u64, theirs.SequenceNumber as u64, theirs.Filename.len() as u64]);
         let decode = black_box(PtpObjectInfo::decode as fn(&[u8]) -> Result<PtpObjectInfo, Error>);
         line("object record", 1,
-             side(|| { black_box(numbers(ptp_object_info, black_box(&object), black_box(&mut fields))); }),
+             side(|| { black_box(numbers(ptp_object_info, black_box(&object), &mut fields)); }),
              Some(side(|| { black_box(decode(black_box(&object)).is_ok()); })));
 
         let decode: fn(&[u8]) -> Result<PtpStorageInfo, Error> = black_box(|s| PtpStorageInfo::decode(&mut Cursor::new(s)));
@@ -40,7 +40,7 @@ mod records {
         assert_eq!([fields[0], fields[4], fields[10]],
                    [storage.len() as u64, theirs.MaxCapacity, theirs.VolumeLabel.len() as u64]);
         line("storage record", 1,
-             side(|| { black_box(numbers(ptp_storage_info, black_box(&storage), black_box(&mut fields))); }),
+             side(|| { black_box(numbers(ptp_storage_info, black_box(&storage), &mut fields)); }),
              Some(side(|| { black_box(decode(black_box(&storage)).is_ok()); })));
 
         let decode: fn(&[u8]) -> Result<PtpPropInfo, Error> = black_box(|s| PtpPropInfo::decode(&mut Cursor::new(s)));
@@ -48,7 +48,7 @@ mod records {
         accepted(numbers(ptp_prop_info, &property, &mut fields));
         assert_eq!([fields[0], fields[1], fields[12]], [property.len() as u64, theirs.PropertyCode as u64, 60]);
         line("property record, a list of 60 UINT32", 1,
-             side(|| { black_box(numbers(ptp_prop_info, black_box(&property), black_box(&mut fields))); }),
+             side(|| { black_box(numbers(ptp_prop_info, black_box(&property), &mut fields)); }),
              Some(side(|| { black_box(decode(black_box(&property)).is_ok()); })));
 
         for &(name, f, ref record) in &[
@@ -59,7 +59,7 @@ mod records {
         ] {
             let count = accepted(bytes(f, record, &mut tidy));
             assert_eq!(&tidy[..count], &record[..]);
-            line(name, 1, side(|| { black_box(bytes(f, black_box(record), black_box(&mut tidy))); }), None);
+            line(name, 1, side(|| { black_box(bytes(f, black_box(record), &mut tidy)); }), None);
         }
     }
 
@@ -76,7 +76,7 @@ mod records {
             let count = accepted(bytes(bench_utf8, &data, &mut out));
             assert_eq!(&out[..count], text.as_bytes());
             line(name, 1,
-                 side(|| { black_box(bytes(bench_utf8, black_box(&data), black_box(&mut out))); }),
+                 side(|| { black_box(bytes(bench_utf8, black_box(&data), &mut out)); }),
                  Some(side(|| { black_box(read(black_box(&data)).is_ok()); })));
         }
     }

@@ -83,7 +83,7 @@ mod trees {
             assert_eq!(accepted(paths(table, &mut out, &mut ends)), theirs.len());
             assert_eq!(&out[..], theirs.as_bytes());
             line(name, 1,
-                 side(|| { black_box(paths(black_box(table), black_box(&mut out), black_box(&mut ends))); }),
+                 side(|| { black_box(paths(black_box(table), &mut out, &mut ends)); }),
                  Some(side(|| { black_box(black_box(&tree).walk().len()); })));
         }
     }
