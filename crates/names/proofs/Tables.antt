@@ -1,10 +1,10 @@
 -- The rule of each table, proved at all of its entries by one test that is computed: an entry is the place of the paper's name
--- with the names before it end to end, and lies within the bytes of its kind's names.
+-- with the names before it end to end. No name is empty, and none is long.
 -- Assumes nothing.
-use mathlib.Core.Path.{_≡_, refl, ap, sym, _∙_}
+use mathlib.Core.Path.{_≡_, refl}
 use mathlib.Core.Bool.{Bool, true, false}
 use mathlib.Core.List.{List, [], _∷_, map}
-use Prim.Native.Nat.{ℕ, zero, suc, _+_, _/_, _%_, _≤_, _<_}
+use Prim.Native.Nat.{ℕ, zero, suc, _+_, _-_, _/_, _%_, _≤_, _<_}
 use Prim.Native.String.{String}
 use native.Mathlib.Omega.{arith}
 use native.Mathlib.Nat.{not-suc-le-zero}
@@ -54,13 +54,13 @@ each test (suc n) t k h = go (eqb k n) refl (each test n (both-right (test n) (b
 
 pub record Ruled (first : ℕ) (names : List String) (table : List ℕ) (k : ℕ) : Type 0 where
   pub place : getD table k 0 ≡ packed (placeAt first names k)
-  pub inside : placeAt first names k .0 + placeAt first names k .1 ≤ first + length (joined names)
+  pub named : 1 ≤ placeAt first names k .1
   pub short : placeAt first names k .1 ≤ 37
 
 ruled? : ℕ → List String → List ℕ → ℕ → Bool
 ruled? first names table k =
     let p = placeAt first names k in
-    both (eqb (getD table k 0) (packed p)) (both (leb (p .0 + p .1) (first + length (joined names))) (leb (p .1) 37))
+    both (eqb (getD table k 0) (packed p)) (both (leb 1 (p .1)) (leb (p .1) 37))
 
 all-three : (a b c : Bool) → T (both a (both b c)) → T a × T b × T c
 all-three a b c t = let u = both-right a (both b c) t in (both-left a (both b c) t, both-left b c u, both-right b c u)
@@ -70,8 +70,8 @@ kept : (first : ℕ) (names : List String) (table : List ℕ) (k : ℕ) → T (r
 unfolding ruled?
 kept first names table k t =
     let p = placeAt first names k in
-    let f = all-three (eqb (getD table k 0) (packed p)) (leb (p .0 + p .1) (first + length (joined names))) (leb (p .1) 37) t in
-    record { place = eqb→eq (getD table k 0) (packed p) (f .0); inside = leb→le (p .0 + p .1) (first + length (joined names)) (f .1); short = leb→le (p .1) 37 (f .2) }
+    let f = all-three (eqb (getD table k 0) (packed p)) (leb 1 (p .1)) (leb (p .1) 37) t in
+    record { place = eqb→eq (getD table k 0) (packed p) (f .0); named = leb→le 1 (p .1) (f .1); short = leb→le (p .1) 37 (f .2) }
 
 pub response-ruled : (k : ℕ) → k < 33 → Ruled 0 responses responseTable k
 unfolding responses responseTable below both ruled?
@@ -81,24 +81,18 @@ pub command-ruled : (k : ℕ) → k < 29 → Ruled (length (joined responses)) c
 unfolding responses commands commandTable below both ruled?
 command-ruled k h = kept (length (joined responses)) commands commandTable k (each (ruled? (length (joined responses)) commands commandTable) 29 tt k h)
 
--- an entry by its number, and taken apart
-pub ruled-at : {first : ℕ} {names : List String} (table : List ℕ) {i k : ℕ} → k ≡ i → Ruled first names table k → getD table i 0 ≡ packed (placeAt first names k)
-ruled-at table e r = ap (λ m. getD table m 0) (sym e) ∙ r .place
-
-pub unpacked : {first : ℕ} {names : List String} {table : List ℕ} {k m : ℕ} → Ruled first names table k → m ≡ packed (placeAt first names k) → _≡_ {A = ℕ × ℕ} (m / 64, m % 64) (placeAt first names k)
-unpacked {first} {names} {table} {k} {m} r e =
-    let p = placeAt first names k in
-    let s : m / 64 ≡ p .0 = omega (arith, r .short) in
-    let l : m % 64 ≡ p .1 = omega (arith, r .short) in
-    rw (s, l)
+-- an entry taken apart
+pub apart : {first : ℕ} {names : List String} {table : List ℕ} {k m : ℕ} → Ruled first names table k → m ≡ packed (placeAt first names k) →
+    (m / 64 ≡ placeAt first names k .0) × (m % 64 ≡ placeAt first names k .1)
+apart r e = (omega (arith, r .short), omega (arith, r .short))
 
 -- ── past the arms of a match ──
 
--- it is none of the numbers below n
-abbrev pub NoneOf : ℕ → ℕ → Type 0
-NoneOf zero k = Unit {0}
-NoneOf (suc n) k = NoneOf n k × (k ≡ n → ⊥)
+-- it is none of the n numbers from `base` on
+abbrev pub NoneOf : ℕ → ℕ → ℕ → Type 0
+NoneOf base zero code = Unit {0}
+NoneOf base (suc n) code = NoneOf base n code × (code ≡ base + n → ⊥)
 
-pub past : (n k : ℕ) → NoneOf n k → n ≤ k
-past zero k h = omega arith
-past (suc n) k h = let m = past n k (h .0) in let f = h .1 in omega arith
+pub past : (base n code : ℕ) → base ≤ code → NoneOf base n code → n ≤ code - base
+past base zero code h none = omega arith
+past base (suc n) code h none = let m = past base n code h (none .0) in let f = none .1 in omega arith

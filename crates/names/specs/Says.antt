@@ -3,7 +3,7 @@
 use mathlib.Core.Path.{_≡_}
 use mathlib.Core.List.{List}
 use mathlib.Core.Option.{Option, none, some}
-use Prim.Native.Nat.{ℕ, _+_, _≤_}
+use Prim.Native.Nat.{ℕ}
 use lib.ListN.{take, drop}
 use Rattle.layout.specs.Answer.{Answer, got, refused}
 use Rattle.layout.specs.Written.{says, answerOf, leftOf}
@@ -24,13 +24,9 @@ saysNamed (named.Done n) = some (got tt n)
 saysNamed (named.Refused t) = some (refused t)
 saysNamed named.Nameless = none
 
--- the bytes at a place, and that it lies within the n name bytes that begin at `first`
+-- the bytes at a place
 abbrev pub bytesAt : ℕ × ℕ → List ℕ
 bytesAt p = take (p .1) (drop (p .0) nameBytes)
-
-abbrev pub Within : ℕ → ℕ → Option (ℕ × ℕ) → Type 0
-Within first n none = Unit {0}
-Within first n (some p) = (first ≤ p .0) × (p .0 + p .1 ≤ first + n)
 
 abbrev pub leftBy : Option (List ℕ) → List ℕ → List ℕ
 leftBy none out = out

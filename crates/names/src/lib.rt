@@ -1,9 +1,10 @@
 // The names of response and command codes. What they are stands in specs/Names.antt.
 ghost use mathlib.Core.Path.{_≡_};
-ghost use Prim.Native.Nat.{_<_};
+ghost use mathlib.Core.Option.{some};
+ghost use Prim.Native.Nat.{_+_, _-_, _/_, _%_, _≤_};
 ghost use lib.ListN.{length, take, drop};
-ghost use Rattle.names.specs.Names.{responses, commands, joined, nameBytes, placeAt, packed, responseName, commandName, responsePlace, commandPlace, given};
-ghost use Rattle.names.specs.Says.{saysName, saysNamed, bytesAt, Within, WroteName};
+ghost use Rattle.names.specs.Names.{nameBytes, responseName, commandName, responsePlace, commandPlace, entry, unpacked};
+ghost use Rattle.names.specs.Says.{saysName, saysNamed, WroteName};
 use layout::Refusal;
 
 // Where a name stands in the name bytes, or that the code has none.
@@ -105,84 +106,98 @@ const COMMANDS: [u16; 29] = [
     956 * 64 + 19,
 ];
 
-// An arm for each entry: a constant table that a variable indexes is made anew at each call, one that numbers index is not.
-fn response_entry(k: usize) -> u16
-    requires { ⌜ k < 33 ⌝ }
-    ensures { λ r. ⌜ r ≡ packed (placeAt 0 responses k) ⌝ }
+// The entry of a code: at the code less the table's first, an arm for each; 0 for none. (A constant table that a variable indexes is
+// made anew at each call. One that numbers index is not.)
+fn response_entry(code: u16) -> u16
+    ensures { λ r. ⌜ r ≡ entry (responsePlace code) ⌝ }
 {
     let t = RESPONSES;
-    match k {
-        0 => t[0],
-        1 => t[1],
-        2 => t[2],
-        3 => t[3],
-        4 => t[4],
-        5 => t[5],
-        6 => t[6],
-        7 => t[7],
-        8 => t[8],
-        9 => t[9],
-        10 => t[10],
-        11 => t[11],
-        12 => t[12],
-        13 => t[13],
-        14 => t[14],
-        15 => t[15],
-        16 => t[16],
-        17 => t[17],
-        18 => t[18],
-        19 => t[19],
-        20 => t[20],
-        21 => t[21],
-        22 => t[22],
-        23 => t[23],
-        24 => t[24],
-        25 => t[25],
-        26 => t[26],
-        27 => t[27],
-        28 => t[28],
-        29 => t[29],
-        30 => t[30],
-        31 => t[31],
-        _ => t[32],
+    match code {
+        0x2000 => t[0],
+        0x2001 => t[1],
+        0x2002 => t[2],
+        0x2003 => t[3],
+        0x2004 => t[4],
+        0x2005 => t[5],
+        0x2006 => t[6],
+        0x2007 => t[7],
+        0x2008 => t[8],
+        0x2009 => t[9],
+        0x200a => t[10],
+        0x200b => t[11],
+        0x200c => t[12],
+        0x200d => t[13],
+        0x200e => t[14],
+        0x200f => t[15],
+        0x2010 => t[16],
+        0x2011 => t[17],
+        0x2012 => t[18],
+        0x2013 => t[19],
+        0x2014 => t[20],
+        0x2015 => t[21],
+        0x2016 => t[22],
+        0x2017 => t[23],
+        0x2018 => t[24],
+        0x2019 => t[25],
+        0x201a => t[26],
+        0x201b => t[27],
+        0x201c => t[28],
+        0x201d => t[29],
+        0x201e => t[30],
+        0x201f => t[31],
+        0x2020 => t[32],
+        _ => 0,
     }
 }
 
-fn command_entry(k: usize) -> u16
-    requires { ⌜ k < 29 ⌝ }
-    ensures { λ r. ⌜ r ≡ packed (placeAt (length (joined responses)) commands k) ⌝ }
+fn command_entry(code: u16) -> u16
+    ensures { λ r. ⌜ r ≡ entry (commandPlace code) ⌝ }
 {
     let t = COMMANDS;
-    match k {
-        0 => t[0],
-        1 => t[1],
-        2 => t[2],
-        3 => t[3],
-        4 => t[4],
-        5 => t[5],
-        6 => t[6],
-        7 => t[7],
-        8 => t[8],
-        9 => t[9],
-        10 => t[10],
-        11 => t[11],
-        12 => t[12],
-        13 => t[13],
-        14 => t[14],
-        15 => t[15],
-        16 => t[16],
-        17 => t[17],
-        18 => t[18],
-        19 => t[19],
-        20 => t[20],
-        21 => t[21],
-        22 => t[22],
-        23 => t[23],
-        24 => t[24],
-        25 => t[25],
-        26 => t[26],
-        27 => t[27],
-        _ => t[28],
+    match code {
+        0x1000 => t[0],
+        0x1001 => t[1],
+        0x1002 => t[2],
+        0x1003 => t[3],
+        0x1004 => t[4],
+        0x1005 => t[5],
+        0x1006 => t[6],
+        0x1007 => t[7],
+        0x1008 => t[8],
+        0x1009 => t[9],
+        0x100a => t[10],
+        0x100b => t[11],
+        0x100c => t[12],
+        0x100d => t[13],
+        0x100e => t[14],
+        0x100f => t[15],
+        0x1010 => t[16],
+        0x1011 => t[17],
+        0x1012 => t[18],
+        0x1013 => t[19],
+        0x1014 => t[20],
+        0x1015 => t[21],
+        0x1016 => t[22],
+        0x1017 => t[23],
+        0x1018 => t[24],
+        0x1019 => t[25],
+        0x101a => t[26],
+        0x101b => t[27],
+        0x101c => t[28],
+        _ => 0,
+    }
+}
+
+// The place that an entry packs: 0 packs none.
+fn place(e: u16) -> Name
+    ensures { λ r. ⌜ saysName r ≡ unpacked e ⌝ }
+{
+    if e == 0 {
+        return Name::None;
+    }
+    Name::At {
+        start: (e / 64) as usize,
+        len: (e % 64) as usize,
     }
 }
 
@@ -199,62 +214,106 @@ pub fn name_bytes() -> [u8; 975]
 pub fn response_name(code: u16) -> Name
     ensures { λ r. ⌜ saysName r ≡ responsePlace code ⌝ }
 {
-    if code < 0x2000 {
-        return Name::None;
-    }
-    let k = (code - 0x2000) as usize;
-    if k >= 33 {
-        return Name::None;
-    }
-    let p = response_entry(k);
-    Name::At {
-        start: (p / 64) as usize,
-        len: (p % 64) as usize,
-    }
+    place(response_entry(code))
 }
 
 pub fn command_name(code: u16) -> Name
     ensures { λ r. ⌜ saysName r ≡ commandPlace code ⌝ }
 {
-    if code < 0x1000 {
-        return Name::None;
-    }
-    let k = (code - 0x1000) as usize;
-    if k >= 29 {
-        return Name::None;
-    }
-    let p = command_entry(k);
-    Name::At {
-        start: (p / 64) as usize,
-        len: (p % 64) as usize,
-    }
+    place(command_entry(code))
 }
 
-// The name at a place. Of the name bytes only those of its kind are lent, which begin at `first`.
-fn write_name(name: Name, names: &[u8], first: usize, out: &mut [u8]) -> Named
-    requires { ⌜ now names ≡ take (length (now names)) (drop first nameBytes) ⌝ }
-    requires { ⌜ Within first (length (now names)) (saysName name) ⌝ }
-    ensures { λ r. ⌜ WroteName (given bytesAt (saysName name)) (now (out .entry)) (saysNamed r) (now (out .exit)) ⌝ }
+// The name that an entry packs. Of the name bytes only those of its kind are lent, which begin at `first`.
+fn write_entry(e: u16, names: &[u8], first: usize, out: &mut [u8]) -> Named
+    requires { ⌜ (first ≤ e / 64) × (e / 64 + e % 64 ≤ first + length (now names)) ⌝ }
+    ensures { λ r. ⌜ WroteName (some (take (e % 64) (drop (e / 64 - first) (now (names .entry))))) (now (out .entry)) (saysNamed r) (now (out .exit)) ⌝ }
 {
-    match name {
-        Name::None => Named::Nameless,
-        Name::At { start, len } => {
-            if out.len() < len {
-                return Named::Refused(layout::plain(9));
-            }
-            Named::Done(layout::copy(names, start - first, len, out, 0))
-        }
+    let len = (e % 64) as usize;
+    if out.len() < len {
+        return Named::Refused(layout::plain(9));
     }
+    Named::Done(layout::copy(names, (e / 64) as usize - first, len, out, 0))
 }
 
+// An arm for each entry here too: an arm then has the bytes of its own name in it, and makes no others.
 pub fn write_response_name(code: u16, out: &mut [u8]) -> Named
     ensures { λ r. ⌜ WroteName (responseName code) (now (out .entry)) (saysNamed r) (now (out .exit)) ⌝ }
 {
-    write_name(response_name(code), &RESPONSE_NAMES, 0, out)
+    let t = RESPONSES;
+    let names: &[u8] = &RESPONSE_NAMES;
+    match code {
+        0x2000 => write_entry(t[0], names, 0, out),
+        0x2001 => write_entry(t[1], names, 0, out),
+        0x2002 => write_entry(t[2], names, 0, out),
+        0x2003 => write_entry(t[3], names, 0, out),
+        0x2004 => write_entry(t[4], names, 0, out),
+        0x2005 => write_entry(t[5], names, 0, out),
+        0x2006 => write_entry(t[6], names, 0, out),
+        0x2007 => write_entry(t[7], names, 0, out),
+        0x2008 => write_entry(t[8], names, 0, out),
+        0x2009 => write_entry(t[9], names, 0, out),
+        0x200a => write_entry(t[10], names, 0, out),
+        0x200b => write_entry(t[11], names, 0, out),
+        0x200c => write_entry(t[12], names, 0, out),
+        0x200d => write_entry(t[13], names, 0, out),
+        0x200e => write_entry(t[14], names, 0, out),
+        0x200f => write_entry(t[15], names, 0, out),
+        0x2010 => write_entry(t[16], names, 0, out),
+        0x2011 => write_entry(t[17], names, 0, out),
+        0x2012 => write_entry(t[18], names, 0, out),
+        0x2013 => write_entry(t[19], names, 0, out),
+        0x2014 => write_entry(t[20], names, 0, out),
+        0x2015 => write_entry(t[21], names, 0, out),
+        0x2016 => write_entry(t[22], names, 0, out),
+        0x2017 => write_entry(t[23], names, 0, out),
+        0x2018 => write_entry(t[24], names, 0, out),
+        0x2019 => write_entry(t[25], names, 0, out),
+        0x201a => write_entry(t[26], names, 0, out),
+        0x201b => write_entry(t[27], names, 0, out),
+        0x201c => write_entry(t[28], names, 0, out),
+        0x201d => write_entry(t[29], names, 0, out),
+        0x201e => write_entry(t[30], names, 0, out),
+        0x201f => write_entry(t[31], names, 0, out),
+        0x2020 => write_entry(t[32], names, 0, out),
+        _ => Named::Nameless,
+    }
 }
 
 pub fn write_command_name(code: u16, out: &mut [u8]) -> Named
     ensures { λ r. ⌜ WroteName (commandName code) (now (out .entry)) (saysNamed r) (now (out .exit)) ⌝ }
 {
-    write_name(command_name(code), &COMMAND_NAMES, 587, out)
+    let t = COMMANDS;
+    let names: &[u8] = &COMMAND_NAMES;
+    match code {
+        0x1000 => write_entry(t[0], names, 587, out),
+        0x1001 => write_entry(t[1], names, 587, out),
+        0x1002 => write_entry(t[2], names, 587, out),
+        0x1003 => write_entry(t[3], names, 587, out),
+        0x1004 => write_entry(t[4], names, 587, out),
+        0x1005 => write_entry(t[5], names, 587, out),
+        0x1006 => write_entry(t[6], names, 587, out),
+        0x1007 => write_entry(t[7], names, 587, out),
+        0x1008 => write_entry(t[8], names, 587, out),
+        0x1009 => write_entry(t[9], names, 587, out),
+        0x100a => write_entry(t[10], names, 587, out),
+        0x100b => write_entry(t[11], names, 587, out),
+        0x100c => write_entry(t[12], names, 587, out),
+        0x100d => write_entry(t[13], names, 587, out),
+        0x100e => write_entry(t[14], names, 587, out),
+        0x100f => write_entry(t[15], names, 587, out),
+        0x1010 => write_entry(t[16], names, 587, out),
+        0x1011 => write_entry(t[17], names, 587, out),
+        0x1012 => write_entry(t[18], names, 587, out),
+        0x1013 => write_entry(t[19], names, 587, out),
+        0x1014 => write_entry(t[20], names, 587, out),
+        0x1015 => write_entry(t[21], names, 587, out),
+        0x1016 => write_entry(t[22], names, 587, out),
+        0x1017 => write_entry(t[23], names, 587, out),
+        0x1018 => write_entry(t[24], names, 587, out),
+        0x1019 => write_entry(t[25], names, 587, out),
+        0x101a => write_entry(t[26], names, 587, out),
+        0x101b => write_entry(t[27], names, 587, out),
+        0x101c => write_entry(t[28], names, 587, out),
+        _ => Named::Nameless,
+    }
 }

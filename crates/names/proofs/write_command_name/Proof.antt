@@ -1,26 +1,137 @@
--- `names::write_command_name` writes what stands at the name's place, which is the name. Assumes nothing.
-use mathlib.Core.Path.{refl}
+-- `names::write_command_name`: arm by arm the name that the table's entry packs, which is the code's. Assumes nothing.
 use borrow.Author.Needs.{needs}
-use Rattle.names.specs.Names.{nameBytes, responses, commands}
-use Rattle.names.proofs.Spells.{command-spells, command-within}
+use lib.ListN.{length}
+use Rattle.names.specs.Names.{responses, commands, commandName}
+use Rattle.names.proofs.Tables.{commandTable}
+use Rattle.names.proofs.Naming.{nameless}
+use Rattle.names.proofs.Spells.{missed, command-writes}
 use Rattle.names.proofs.write_command_name.Statement.{statement}
 use Rattle.names.proofs.write_command_name.Tie as tie
 
-write-name-requires : tie.Need-write-name-requires
-unfolding nameBytes responses commands
-write-name-requires c κs = (refl, rw (c .before .before .command-name .ensures) (command-within (c .before .before .before .before .args .code)))
-
-returns : tie.Need-returns
-returns c =
-    let k = c .before .before .before .before .before in
-    rw (k .command-name .ensures, command-spells (k .before .before .args .code)) at (c .before .before .write-name .ensures)
+returns-30 : tie.Need-returns-30
+unfolding commandName commands
+returns-30 c = rw (missed 0x1000 (length commands) (c .before .before .before .args .code) (c .match .rest)) nameless
 
 pub write-command-name-spec : {M : Type 1} → statement M
+unfolding commandTable responses commands
 write-command-name-spec =
     tie.close
     (tie.spec
+    (λ c. search needs)
+    (λ c. search needs)
     (λ c κs. search needs)
     (λ c. search needs)
-    write-name-requires
+    (λ c κs. search needs)
     (λ c. search needs)
-    returns)
+    (λ c κs. search needs)
+    (λ c. search needs)
+    (λ c κs. search needs)
+    (λ c. search needs)
+    (λ c κs. search needs)
+    (λ c. search needs)
+    (λ c κs. search needs)
+    (λ c. search needs)
+    (λ c κs. search needs)
+    (λ c. search needs)
+    (λ c κs. search needs)
+    (λ c. search needs)
+    (λ c κs. search needs)
+    (λ c. search needs)
+    (λ c κs. search needs)
+    (λ c. search needs)
+    (λ c κs. search needs)
+    (λ c. search needs)
+    (λ c κs. search needs)
+    (λ c. search needs)
+    (λ c κs. search needs)
+    (λ c. search needs)
+    (λ c κs. search needs)
+    (λ c. search needs)
+    (λ c κs. search needs)
+    (λ c. search needs)
+    (λ c κs. search needs)
+    (λ c. search needs)
+    (λ c κs. search needs)
+    (λ c. search needs)
+    (λ c κs. search needs)
+    (λ c. search needs)
+    (λ c κs. search needs)
+    (λ c. search needs)
+    (λ c κs. search needs)
+    (λ c. search needs)
+    (λ c κs. search needs)
+    (λ c. search needs)
+    (λ c κs. search needs)
+    (λ c. search needs)
+    (λ c κs. search needs)
+    (λ c. search needs)
+    (λ c κs. search needs)
+    (λ c. search needs)
+    (λ c κs. search needs)
+    (λ c. search needs)
+    (λ c κs. search needs)
+    (λ c. search needs)
+    (λ c κs. search needs)
+    (λ c. search needs)
+    (λ c κs. search needs)
+    (λ c. search needs)
+    (λ c κs. search needs)
+    (λ c. search needs)
+    (λ c. command-writes 0 (c .before .before .before .before .match .keys1) tt (c .before .before .write-entry .ensures))
+    (λ c. search needs)
+    (λ c. command-writes 1 (c .before .before .before .before .match .keys2) tt (c .before .before .write-entry2 .ensures))
+    (λ c. search needs)
+    (λ c. command-writes 2 (c .before .before .before .before .match .keys3) tt (c .before .before .write-entry3 .ensures))
+    (λ c. search needs)
+    (λ c. command-writes 3 (c .before .before .before .before .match .keys4) tt (c .before .before .write-entry4 .ensures))
+    (λ c. search needs)
+    (λ c. command-writes 4 (c .before .before .before .before .match .keys5) tt (c .before .before .write-entry5 .ensures))
+    (λ c. search needs)
+    (λ c. command-writes 5 (c .before .before .before .before .match .keys6) tt (c .before .before .write-entry6 .ensures))
+    (λ c. search needs)
+    (λ c. command-writes 6 (c .before .before .before .before .match .keys7) tt (c .before .before .write-entry7 .ensures))
+    (λ c. search needs)
+    (λ c. command-writes 7 (c .before .before .before .before .match .keys8) tt (c .before .before .write-entry8 .ensures))
+    (λ c. search needs)
+    (λ c. command-writes 8 (c .before .before .before .before .match .keys9) tt (c .before .before .write-entry9 .ensures))
+    (λ c. search needs)
+    (λ c. command-writes 9 (c .before .before .before .before .match .keys10) tt (c .before .before .write-entry10 .ensures))
+    (λ c. search needs)
+    (λ c. command-writes 10 (c .before .before .before .before .match .keys11) tt (c .before .before .write-entry11 .ensures))
+    (λ c. search needs)
+    (λ c. command-writes 11 (c .before .before .before .before .match .keys12) tt (c .before .before .write-entry12 .ensures))
+    (λ c. search needs)
+    (λ c. command-writes 12 (c .before .before .before .before .match .keys13) tt (c .before .before .write-entry13 .ensures))
+    (λ c. search needs)
+    (λ c. command-writes 13 (c .before .before .before .before .match .keys14) tt (c .before .before .write-entry14 .ensures))
+    (λ c. search needs)
+    (λ c. command-writes 14 (c .before .before .before .before .match .keys15) tt (c .before .before .write-entry15 .ensures))
+    (λ c. search needs)
+    (λ c. command-writes 15 (c .before .before .before .before .match .keys16) tt (c .before .before .write-entry16 .ensures))
+    (λ c. search needs)
+    (λ c. command-writes 16 (c .before .before .before .before .match .keys17) tt (c .before .before .write-entry17 .ensures))
+    (λ c. search needs)
+    (λ c. command-writes 17 (c .before .before .before .before .match .keys18) tt (c .before .before .write-entry18 .ensures))
+    (λ c. search needs)
+    (λ c. command-writes 18 (c .before .before .before .before .match .keys19) tt (c .before .before .write-entry19 .ensures))
+    (λ c. search needs)
+    (λ c. command-writes 19 (c .before .before .before .before .match .keys20) tt (c .before .before .write-entry20 .ensures))
+    (λ c. search needs)
+    (λ c. command-writes 20 (c .before .before .before .before .match .keys21) tt (c .before .before .write-entry21 .ensures))
+    (λ c. search needs)
+    (λ c. command-writes 21 (c .before .before .before .before .match .keys22) tt (c .before .before .write-entry22 .ensures))
+    (λ c. search needs)
+    (λ c. command-writes 22 (c .before .before .before .before .match .keys23) tt (c .before .before .write-entry23 .ensures))
+    (λ c. search needs)
+    (λ c. command-writes 23 (c .before .before .before .before .match .keys24) tt (c .before .before .write-entry24 .ensures))
+    (λ c. search needs)
+    (λ c. command-writes 24 (c .before .before .before .before .match .keys25) tt (c .before .before .write-entry25 .ensures))
+    (λ c. search needs)
+    (λ c. command-writes 25 (c .before .before .before .before .match .keys26) tt (c .before .before .write-entry26 .ensures))
+    (λ c. search needs)
+    (λ c. command-writes 26 (c .before .before .before .before .match .keys27) tt (c .before .before .write-entry27 .ensures))
+    (λ c. search needs)
+    (λ c. command-writes 27 (c .before .before .before .before .match .keys28) tt (c .before .before .write-entry28 .ensures))
+    (λ c. search needs)
+    (λ c. command-writes 28 (c .before .before .before .before .match .keys29) tt (c .before .before .write-entry29 .ensures))
+    returns-30)
