@@ -9,10 +9,12 @@ mod names {
 
     pub fn names() {
         type Name = fn(u16) -> Option<&'static str>;
-        for &(found, written, first, count, their, at, spell) in &[
-            ("response name found", "response name written", 0x2000, 33, StandardResponseCode::name as Name,
+        let lengths = |their: Name, codes: std::ops::Range<u16>| -> u64 { codes.map(|code| their(code).map_or(0, str::len) as u64).sum() };
+        let responses = lengths(StandardResponseCode::name, 0x2000..0x2021);
+        for &(found, written, before, first, count, their, at, spell) in &[
+            ("response name found", "response name written", 0, 0x2000, 33, StandardResponseCode::name as Name,
              bench_response_place as Place, bench_response_name as Spelling),
-            ("command name found", "command name written", 0x1000, 29, StandardCommandCode::name as Name,
+            ("command name found", "command name written", responses, 0x1000, 29, StandardCommandCode::name as Name,
              bench_command_place as Place, bench_command_name as Spelling),
         ] {
             let codes: Vec<u16> = (0..count + 3).map(|i| first + i * 17 % (count + 3)).collect();
@@ -20,7 +22,8 @@ mod names {
             for &code in &codes {
                 let size = accepted(spelling(spell, code, &mut out));
                 assert_eq!(&out[..size], their(code).unwrap_or("").as_bytes());
-                assert_eq!(unsafe { at(code) } % 65536, size as u64);
+                let place = if size == 0 { 0 } else { (before + lengths(their, first..code)) * 65536 + size as u64 };
+                assert_eq!(unsafe { at(code) }, place);
             }
             let their = black_box(their);
             line(found, codes.len(),

@@ -3,6 +3,7 @@
 
 mod records {
     use super::*;
+    use agreement::Row;
     use archive::*;
     use clock::*;
     use inputs::*;
@@ -18,8 +19,7 @@ mod records {
 
         let theirs = PtpDeviceInfo::decode(&device).expect("a device record");
         accepted(numbers(ptp_device_info, &device, &mut fields));
-        assert_eq!([fields[0], fields[8], fields[24]],
-                   [device.len() as u64, theirs.OperationsSupported.len() as u64, theirs.SerialNumber.len() as u64]);
+        Row(&device, &fields).is_device(&theirs);
         let decode = black_box(PtpDeviceInfo::decode as fn(&[u8]) -> Result<PtpDeviceInfo, Error>);
         line("device record, 60 operations", 1,
              side(|| { black_box(numbers(ptp_device_info, black_box(&device), &mut fields)); }),
@@ -27,8 +27,7 @@ mod records {
 
         let theirs = PtpObjectInfo::decode(&object).expect("an object record");
         accepted(numbers(ptp_object_info, &object, &mut fields));
-        assert_eq!([fields[0], fields[15], fields[17]],
-                   [object.len() as u64, theirs.SequenceNumber as u64, theirs.Filename.len() as u64]);
+        Row(&object, &fields).is_object(&theirs);
         let decode = black_box(PtpObjectInfo::decode as fn(&[u8]) -> Result<PtpObjectInfo, Error>);
         line("object record", 1,
              side(|| { black_box(numbers(ptp_object_info, black_box(&object), &mut fields)); }),
@@ -37,8 +36,7 @@ mod records {
         let decode: fn(&[u8]) -> Result<PtpStorageInfo, Error> = black_box(|s| PtpStorageInfo::decode(&mut Cursor::new(s)));
         let theirs = decode(&storage).expect("a storage record");
         accepted(numbers(ptp_storage_info, &storage, &mut fields));
-        assert_eq!([fields[0], fields[4], fields[10]],
-                   [storage.len() as u64, theirs.MaxCapacity, theirs.VolumeLabel.len() as u64]);
+        Row(&storage, &fields).is_storage(&theirs);
         line("storage record", 1,
              side(|| { black_box(numbers(ptp_storage_info, black_box(&storage), &mut fields)); }),
              Some(side(|| { black_box(decode(black_box(&storage)).is_ok()); })));
@@ -46,7 +44,7 @@ mod records {
         let decode: fn(&[u8]) -> Result<PtpPropInfo, Error> = black_box(|s| PtpPropInfo::decode(&mut Cursor::new(s)));
         let theirs = decode(&property).expect("a property record");
         accepted(numbers(ptp_prop_info, &property, &mut fields));
-        assert_eq!([fields[0], fields[1], fields[12]], [property.len() as u64, theirs.PropertyCode as u64, 60]);
+        Row(&property, &fields).is_property(&theirs);
         line("property record, a list of 60 UINT32", 1,
              side(|| { black_box(numbers(ptp_prop_info, black_box(&property), &mut fields)); }),
              Some(side(|| { black_box(decode(black_box(&property)).is_ok()); })));

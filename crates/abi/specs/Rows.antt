@@ -1,14 +1,13 @@
 -- What each number of each answer is. A part is its start and its count of units or items; the bytes of a value, their start and length.
 -- Assumes nothing.
 use mathlib.Core.Bool.{Bool, true, false}
-use mathlib.Core.List.{List, [], _∷_, _++_}
+use mathlib.Core.List.{List, [], _∷_}
 use Prim.Native.Nat.{ℕ}
 use Rattle.recording.specs.declared.Content.{Content}
 use Rattle.recording.specs.declared.Content.the-variants as content
 use Rattle.recording.specs.declared.Record.{Record}
 use Rattle.session.specs.Search.{Reply, payload, response}
 use Rattle.wire.specs.Places.{Located}
-use Rattle.wire.specs.declared.Part.{Part}
 use Rattle.wire.specs.declared.device.DeviceInfo.{DeviceInfo}
 use Rattle.wire.specs.declared.later.Chosen.{Chosen}
 use Rattle.wire.specs.declared.object.ObjectInfo.{ObjectInfo}

@@ -11,7 +11,6 @@ use Rattle.wire.specs.Container.{commandSaid}
 use Rattle.wire.specs.declared.container.Command.{Command}
 use Rattle.session.specs.Transaction.{Turn, withData, Makes}
 use Rattle.session.specs.declared.transaction.Session.{Session}
-use Rattle.abi.specs.Answered.{Tells}
 
 -- the parameters that there are; a count over five is refused, so that no more than five are meant
 abbrev pub commandOf : ℕ → List ℕ → Command

@@ -8,7 +8,7 @@ use native.Mathlib.Omega.{arith}
 use borrow.Author.Tests.{le-leb}
 use lib.ListN.{length}
 use Rattle.layout.specs.Answer.{Answer}
-use Rattle.layout.specs.Written.{Wrote, answerOf, leftOf, saysWritten}
+use Rattle.layout.specs.Written.{answerOf, leftOf, saysWritten}
 use Rattle.layout.specs.declared.Written.{Written}
 use Rattle.names.specs.Names.{given}
 use Rattle.names.specs.Says.{WroteName, leftBy}

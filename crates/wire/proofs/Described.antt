@@ -18,7 +18,7 @@ use Rattle.wire.specs.declared.property.Slot.{Slot}
 use Rattle.wire.specs.declared.property.Form as F
 use Rattle.wire.specs.declared.property.Form.the-variants as code
 use Rattle.wire.specs.Layout.{Val, shape, Form, range, list, reading}
-use Rattle.wire.specs.Codecs.{value, row, three, listed, formed, form, fields, property}
+use Rattle.wire.specs.Codecs.{value, row, three, listed, formed, form, property}
 use Rattle.wire.specs.Places.{numAt, Located, valueAt, shapeIn}
 use Rattle.wire.specs.Property.{between, slotAt, valuesAt, rangeAt, listAt, formAt, propertyAt, slotIn, formIn, propertyIn}
 use Rattle.wire.specs.Tidy.{rowWord, types}

@@ -1,6 +1,5 @@
 -- `abi::transaction::ptp_command`: what was made, with its number; a refusal leaves the number. Assumes nothing.
 use borrow.Author.Needs.{needs}
-use mathlib.Core.Path.{_≡_, refl, _∙_, sym, ap}
 use Rattle.session.specs.Transaction.{saysMade}
 use Rattle.abi.specs.Answered.{word}
 use Rattle.abi.proofs.transaction.ptp_command.Statement.{statement}
