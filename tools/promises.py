@@ -1,5 +1,5 @@
-"""Fails where a public function of a library crate has no row in docs/PROMISES.md, or a row no function; or where an edit that is named has no file,
-or the file of an edit is named in no row."""
+"""Fails where a public function of a library crate has no row in docs/PROMISES.md, or a row no function; or a named edit no file, or an edit's file no row
+that names it."""
 import os
 import re
 import sys
