@@ -1,4 +1,5 @@
-"""Fails where a public function of a library crate has no row in docs/PROMISES.md, or a row no function, or an edit that is named no file."""
+"""Fails where a public function of a library crate has no row in docs/PROMISES.md, or a row no function; or a named edit no file, or an edit's file no row
+that names it."""
 import os
 import re
 import sys
@@ -37,16 +38,26 @@ def rows():
                 yield cells[0].strip('`'), re.findall(r'`(\w+/\w+)`', cells[4])
 
 
+def edits(crate):
+    """The crate's edits, as CRATE/EDIT: those that the gate tries, then those of wrong/."""
+    for folder in (os.path.join(ROOT, 'crates', crate, 'must-fail'), os.path.join(ROOT, 'wrong', crate)):
+        if os.path.isdir(folder):
+            for file in sorted(os.listdir(folder)):
+                yield '%s/%s' % (crate, file[:-len('.edit')])
+
+
 def main():
     public = {name for crate in libraries() for name in functions(crate)}
     told = dict(rows())
     faults = ['no row in docs/PROMISES.md: ' + name for name in sorted(public - set(told))]
     faults += ['a row without a function: ' + name for name in sorted(set(told) - public)]
-    for name, edits in sorted(told.items()):
-        for edit in edits:
-            crate, label = edit.split('/')
-            if not os.path.exists(os.path.join(ROOT, 'crates', crate, 'must-fail', label + '.edit')):
-                faults.append('%s: no edit %s' % (name, edit))
+    # The edits of a crate without public functions, as `examples`, try what no row tells of.
+    kept = [edit for crate in sorted({name.split('::')[0] for name in public}) for edit in edits(crate)]
+    for name, tried in sorted(told.items()):
+        faults += ['%s: no edit %s' % (name, edit) for edit in tried if edit not in kept]
+    named = {edit for tried in told.values() for edit in tried}
+    faults += ['an edit that no row names: ' + edit for edit in kept if edit not in named]
+    faults += ['two edits of one name: ' + edit for edit in sorted(set(kept)) if kept.count(edit) > 1]
     print('\n'.join(faults) if faults else 'promises: %d functions, a row each' % len(public))
     return 1 if faults else 0
 
