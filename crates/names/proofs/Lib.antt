@@ -1,4 +1,5 @@
 pub mod Tables
 pub mod Spells
+pub mod Arms
 pub mod Naming
 pub mod Unique

@@ -4,30 +4,22 @@ use mathlib.Core.Path.{_≡_, refl, ap}
 use mathlib.Core.Bool.{Bool, true, false}
 use mathlib.Core.List.{List, [], _∷_, _++_, append-assoc, append-nil}
 use mathlib.Core.Option.{Option, none, some}
-use Prim.Native.Nat.{ℕ, zero, suc, _+_, _-_, _/_, _%_, _≤_, _<_}
+use Prim.Native.Nat.{ℕ, zero, suc, _+_, _-_, _≤_, _<_}
 use Prim.Native.String.{String}
 use native.Mathlib.Nat.{not-suc-le-zero, le-of-suc-le-suc}
 use native.Mathlib.Omega.{arith}
-use borrow.Author.Tests.{ltb-true, le-ltb, lt-ltb, le-leb, leb-true, ne-eqb}
-use lib.Dec.{T, leb, ltb, eqb, lit<}
-use lib.ListN.{length, take, drop, getD, length-append}
+use borrow.Author.Tests.{ltb-true, lt-ltb, le-leb, ne-eqb}
+use lib.Dec.{leb, ltb, eqb}
+use lib.ListN.{length, take, drop, length-append}
 use lib.Seq.{take-append-seam, drop-append-add}
-use Rattle.layout.specs.Answer.{Answer, pick}
+use Rattle.layout.specs.Answer.{pick}
 use Rattle.names.specs.Names.{responses, commands, spelled, joined, nameBytes, given, entryOf, nameAt, placeAt, packed, responseName, commandName, responsePlace, commandPlace, entry, unpacked}
-use Rattle.names.specs.Says.{bytesAt, WroteName}
-use Rattle.names.proofs.Tables.{responseTable, commandTable, Ruled, response-ruled, command-ruled, apart, NoneOf, past}
+use Rattle.names.specs.Says.{bytesAt}
+use Rattle.names.proofs.Tables.{responseTable, commandTable, Ruled, response-ruled, command-ruled, apart}
 
 -- ── the entry of a code ──
 
-pub missed : (base n code : ℕ) → NoneOf base n code → entryOf base n code ≡ none
-unfolding entryOf
-missed base n code f = go (leb base code) refl
-  where
-    go : (b : Bool) → leb base code ≡ b → pick b (pick (ltb (code - base) n) (some (code - base)) none) none ≡ none
-    go true e = rw (le-ltb (code - base) n (past base n code (leb-true base code e) f))
-    go false e = refl
-
-in-table : (base n code k : ℕ) → code ≡ base + k → k < n → entryOf base n code ≡ some k
+pub in-table : (base n code k : ℕ) → code ≡ base + k → k < n → entryOf base n code ≡ some k
 unfolding entryOf
 in-table base n code k e h =
     let same : code - base ≡ k = omega arith in
@@ -68,7 +60,7 @@ command-back = back 0x1000 (length (joined responses)) commands commandTable com
 
 -- ── the name at its place ──
 
-front : (names : List String) (k : ℕ) (rest : List ℕ) → k < length names → take (length (nameAt names k)) (drop (length (joined (take k names))) (joined names ++ rest)) ≡ nameAt names k
+pub front : (names : List String) (k : ℕ) (rest : List ℕ) → k < length names → take (length (nameAt names k)) (drop (length (joined (take k names))) (joined names ++ rest)) ≡ nameAt names k
 front [] k rest h = absurd (not-suc-le-zero h)
 front (n ∷ ns) zero rest h = rw append-assoc (take-append-seam (spelled n) (joined ns ++ rest))
 front (n ∷ ns) (suc k) rest h =
@@ -91,38 +83,6 @@ unfolding commandPlace commandName nameBytes
 command-spells code =
     entered 0x1000 (length commands) code (λ e. given bytesAt (given (placeAt (length (joined responses)) commands) e) ≡ given (nameAt commands) e) refl
     λ k h. ap some (rw append-nil at (stands (joined responses) commands k [] h))
-
--- ── the arms of a match on a code ──
-
--- an arm's entry packs the place, and the name stands there in the bytes of its kind
-module _ (base first : ℕ) (names : List String) (table : List ℕ) (ruled : (k : ℕ) → k < length names → Ruled first names table k) {k code : ℕ} (arm : code ≡ base + k) (below : k < length names) where
-  pub arm-entry : getD table k 0 ≡ entry (given (placeAt first names) (entryOf base (length names) code))
-  arm-entry = rw (in-table base (length names) code k arm below) (ruled k below .place)
-
-  pub arm-name : some (take (getD table k 0 % 64) (drop (getD table k 0 / 64 - first) (joined names))) ≡ given (nameAt names) (entryOf base (length names) code)
-  arm-name =
-      let a = apart (ruled k below) (ruled k below .place) in
-      let s : getD table k 0 / 64 - first ≡ length (joined (take k names)) = omega (arith, a .0) in
-      rw (in-table base (length names) code k arm below, a .1, s) (ap some (rw append-nil at (front names k [] below)))
-
-pub response-arm : (k : ℕ) {code : ℕ} → code ≡ 0x2000 + k → T (ltb k 33) → getD responseTable k 0 ≡ entry (responsePlace code)
-unfolding responsePlace responses
-response-arm k e t = arm-entry 0x2000 0 responses responseTable response-ruled e (lit< t)
-
-pub command-arm : (k : ℕ) {code : ℕ} → code ≡ 0x1000 + k → T (ltb k 29) → getD commandTable k 0 ≡ entry (commandPlace code)
-unfolding commandPlace responses commands
-command-arm k e t = arm-entry 0x1000 (length (joined responses)) commands commandTable command-ruled e (lit< t)
-
--- what an arm writes is the code's name
-pub response-writes : (k : ℕ) {code : ℕ} {old new : List ℕ} {a : Option (Answer (Unit {0}))} → code ≡ 0x2000 + k → T (ltb k 33) →
-    WroteName (some (take (getD responseTable k 0 % 64) (drop (getD responseTable k 0 / 64 - 0) (joined responses)))) old a new → WroteName (responseName code) old a new
-unfolding responseName responses
-response-writes k e t w = rw (arm-name 0x2000 0 responses responseTable response-ruled e (lit< t)) at w
-
-pub command-writes : (k : ℕ) {code : ℕ} {old new : List ℕ} {a : Option (Answer (Unit {0}))} → code ≡ 0x1000 + k → T (ltb k 29) →
-    WroteName (some (take (getD commandTable k 0 % 64) (drop (getD commandTable k 0 / 64 - length (joined responses)) (joined commands)))) old a new → WroteName (commandName code) old a new
-unfolding commandName responses commands
-command-writes k e t w = rw (arm-name 0x1000 (length (joined responses)) commands commandTable command-ruled e (lit< t)) at w
 
 -- a name has at most 37 bytes
 abbrev pub Short : Option (List ℕ) → Type 0

@@ -4,7 +4,7 @@
 use mathlib.Core.Path.{_≡_, refl}
 use mathlib.Core.Bool.{Bool, true, false}
 use mathlib.Core.List.{List, [], _∷_, map}
-use Prim.Native.Nat.{ℕ, zero, suc, _+_, _-_, _/_, _%_, _≤_, _<_}
+use Prim.Native.Nat.{ℕ, zero, suc, _/_, _%_, _≤_, _<_}
 use Prim.Native.String.{String}
 use native.Mathlib.Omega.{arith}
 use native.Mathlib.Nat.{not-suc-le-zero}
@@ -85,14 +85,3 @@ command-ruled k h = kept (length (joined responses)) commands commandTable k (ea
 pub apart : {first : ℕ} {names : List String} {table : List ℕ} {k m : ℕ} → Ruled first names table k → m ≡ packed (placeAt first names k) →
     (m / 64 ≡ placeAt first names k .0) × (m % 64 ≡ placeAt first names k .1)
 apart r e = (omega (arith, r .short), omega (arith, r .short))
-
--- ── past the arms of a match ──
-
--- it is none of the n numbers from `base` on
-abbrev pub NoneOf : ℕ → ℕ → ℕ → Type 0
-NoneOf base zero code = Unit {0}
-NoneOf base (suc n) code = NoneOf base n code × (code ≡ base + n → ⊥)
-
-pub past : (base n code : ℕ) → base ≤ code → NoneOf base n code → n ≤ code - base
-past base zero code h none = omega arith
-past base (suc n) code h none = let m = past base n code h (none .0) in let f = none .1 in omega arith

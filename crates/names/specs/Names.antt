@@ -124,20 +124,22 @@ commandName code = given (nameAt commands) (entryOf 0x1000 (length commands) cod
 abbrev pub placeAt : ℕ → List String → ℕ → ℕ × ℕ
 placeAt first names k = (first + length (joined (take k names)), length (nameAt names k))
 
--- in one number, as the tables have it: no name has 64 bytes
-abbrev pub packed : ℕ × ℕ → ℕ
-packed p = p .0 * 64 + p .1
-
 unfoldable pub responsePlace : ℕ → Option (ℕ × ℕ)
 responsePlace code = given (placeAt 0 responses) (entryOf 0x2000 (length responses) code)
 
 unfoldable pub commandPlace : ℕ → Option (ℕ × ℕ)
 commandPlace code = given (placeAt (length (joined responses)) commands) (entryOf 0x1000 (length commands) code)
 
--- as an entry of the tables, and back: 0 for none
+-- ── as an entry of the tables, in one number: no name has 64 bytes ──
+
+abbrev pub packed : ℕ × ℕ → ℕ
+packed p = p .0 * 64 + p .1
+
+-- 0 for none
 abbrev pub entry : Option (ℕ × ℕ) → ℕ
 entry none = 0
 entry (some p) = packed p
 
+-- and back
 abbrev pub unpacked : ℕ → Option (ℕ × ℕ)
 unpacked e = pick (eqb e 0) none (some (e / 64, e % 64))

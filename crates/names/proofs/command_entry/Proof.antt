@@ -3,7 +3,7 @@ use borrow.Author.Needs.{needs}
 use lib.ListN.{length}
 use Rattle.names.specs.Names.{commands, commandPlace}
 use Rattle.names.proofs.Tables.{commandTable}
-use Rattle.names.proofs.Spells.{missed, command-arm}
+use Rattle.names.proofs.Arms.{missed, command-arm}
 use Rattle.names.proofs.command_entry.Statement.{statement}
 use Rattle.names.proofs.command_entry.Tie as tie
 

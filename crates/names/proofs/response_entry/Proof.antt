@@ -3,7 +3,7 @@ use borrow.Author.Needs.{needs}
 use lib.ListN.{length}
 use Rattle.names.specs.Names.{responses, responsePlace}
 use Rattle.names.proofs.Tables.{responseTable}
-use Rattle.names.proofs.Spells.{missed, response-arm}
+use Rattle.names.proofs.Arms.{missed, response-arm}
 use Rattle.names.proofs.response_entry.Statement.{statement}
 use Rattle.names.proofs.response_entry.Tie as tie
 

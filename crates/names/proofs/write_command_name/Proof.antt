@@ -4,7 +4,7 @@ use lib.ListN.{length}
 use Rattle.names.specs.Names.{responses, commands, commandName}
 use Rattle.names.proofs.Tables.{commandTable}
 use Rattle.names.proofs.Naming.{nameless}
-use Rattle.names.proofs.Spells.{missed, command-writes}
+use Rattle.names.proofs.Arms.{missed, command-writes}
 use Rattle.names.proofs.write_command_name.Statement.{statement}
 use Rattle.names.proofs.write_command_name.Tie as tie
 

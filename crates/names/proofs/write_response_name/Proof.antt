@@ -4,7 +4,7 @@ use lib.ListN.{length}
 use Rattle.names.specs.Names.{responses, responseName}
 use Rattle.names.proofs.Tables.{responseTable}
 use Rattle.names.proofs.Naming.{nameless}
-use Rattle.names.proofs.Spells.{missed, response-writes}
+use Rattle.names.proofs.Arms.{missed, response-writes}
 use Rattle.names.proofs.write_response_name.Statement.{statement}
 use Rattle.names.proofs.write_response_name.Tie as tie
 
