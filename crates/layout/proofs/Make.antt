@@ -20,19 +20,19 @@ use Rattle.layout.proofs.Numbers.{Bytes-drop, Bytes-take, bytes-number,
 use Rattle.layout.proofs.Words.{fits, join, part-there, split, stands-none}
 
 -- one reader after another keeps what is sound
-after-sound : {A B : Type 0} {G : Grammar A} {H : Grammar B} {s : List ℕ} {at from : ℕ} {x : Answer A} (k : A → ℕ → Answer B) → Sound G s at x
+pub after-sound : {A B : Type 0} {G : Grammar A} {H : Grammar B} {s : List ℕ} {at from : ℕ} {x : Answer A} (k : A → ℕ → Answer B) → Sound G s at x
     → ((a : A) (n : ℕ) (w : List ℕ) → Stands s at n w → G loose w a → Sound H s from (k a n)) → Sound H s from (after x k)
 unfolding after
 after-sound k (word {w} {r} {n} st g) f = f r n w st g
 after-sound k none f = none
 
-means-sound : {A B : Type 0} {G : Grammar A} {H : Grammar B} {s : List ℕ} {at from : ℕ} {x : Answer A} (f : A → B) → Sound G s at x
+pub means-sound : {A B : Type 0} {G : Grammar A} {H : Grammar B} {s : List ℕ} {at from : ℕ} {x : Answer A} (f : A → B) → Sound G s at x
     → ((a : A) (n : ℕ) (w : List ℕ) → Stands s at n w → G loose w a → Sound H s from (got (f a) n)) → Sound H s from (means f x)
 unfolding means
 means-sound f (word {w} {r} {n} st g) k = k r n w st g
 means-sound f none k = none
 
-sound-sound : {A : Type 0} {G H : Grammar A} {s : List ℕ} {at from : ℕ} {x : Answer A} → Sound G s at x
+pub sound-sound : {A : Type 0} {G H : Grammar A} {s : List ℕ} {at from : ℕ} {x : Answer A} → Sound G s at x
     → ((a : A) (n : ℕ) (w : List ℕ) → Stands s at n w → G loose w a → Sound H s from (got a n)) → Sound H s from x
 sound-sound (word {w} {r} {n} st g) k = k r n w st g
 sound-sound none k = none

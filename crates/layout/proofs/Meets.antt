@@ -12,7 +12,7 @@ use Rattle.layout.specs.Codec.{Codec}
 use Rattle.layout.specs.Grammar.{tidy, Grammar}
 use Rattle.layout.specs.Written.{saidOf, tidied, Wrote}
 use Rattle.layout.specs.Format.{Sound, word, Format}
-use Rattle.layout.specs.Faithful.{Prefix, Faithful, Exact, Tidies}
+use Rattle.layout.specs.Faithful.{Prefix, Faithful, Exact, Tidies, Kept}
 use Rattle.layout.specs.Placed.{Inside, Lies, lies, nowhere, Placed}
 use Rattle.layout.proofs.Words.{fits, part-there}
 use Rattle.layout.proofs.Writing.{wrote-so}
@@ -81,22 +81,15 @@ lies-after k nowhere f = nowhere
 -- of a reader of places, and of the tidy writer beside it: any answer x that the one promise allows of the first place, and any answer and output that the other does
 module _ {R L : Type 0} {G : Grammar R} {F : Codec R} (f : Format G F) {mean : List ℕ → L → R} {parts : L → List (ℕ × ℕ)} {place : Reader L} (P : Placed mean parts place (F .read))
     (s : List ℕ) (h : Bytes s) (x : Answer L) (promised : x ≡ place s 0) where
-  -- accepted exactly when some prefix is in the grammar, with its reading and length
   pub reads-exactly : Exact G (mean s) s x
   reads-exactly = exact f (mean s) s h x (ap (means (mean s)) promised ∙ P .agrees s 0)
 
-  -- every part lies inside
-  pub parts-inside : Lies parts 0 x
-  parts-inside = subst (Lies parts 0) (sym promised) (P .inside s 0)
-
-  -- what the tidy writer has to say is the one tidy word of that reading
-  pub tidies-exactly : Tidies G (mean s) (F .write) s x (tidied F s)
-  tidies-exactly = tidies f (mean s) s h x (ap (means (mean s)) promised ∙ P .agrees s 0)
-
-  -- with room enough it is written at the front, and nothing else is changed; it is what was read exactly when that was tidy
-  module _ (old new : List ℕ) (answer : Answer (Unit {0})) (wrote : Wrote (tidied F s) old answer new) (l : L) (n : ℕ) (read : x ≡ got l n) where
-    pub writes-exactly : length (F .write (mean s l)) ≤ length old → (answer ≡ got tt (length (F .write (mean s l)))) × (new ≡ F .write (mean s l) ++ drop (length (F .write (mean s l))) old)
-    writes-exactly room = wrote-so (tidies-exactly .owes l n read) room wrote
-
-    pub gives-back : F .write (mean s l) ≡ take n s ↔ G tidy (take n s) (mean s l)
-    gives-back = tidies-exactly .gives-back l n read
+  pub kept : Kept G F (mean s) parts s x
+  kept =
+      let tidy-writer = tidies f (mean s) s h x (ap (means (mean s)) promised ∙ P .agrees s 0) in
+      record {
+        exact = reads-exactly;
+        inside = subst (Lies parts 0) (sym promised) (P .inside s 0);
+        tidies = tidy-writer;
+        writes = λ old new answer wrote l n read room. wrote-so (tidy-writer .owes l n read) room wrote;
+      }

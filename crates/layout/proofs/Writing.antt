@@ -17,6 +17,7 @@ use lib.Seq.{sets, length-sets, sets-eq, drop-cons, take-all, take-length, lengt
 use Rattle.layout.specs.Answer.{Told, Answer, got, refused, bare, pick}
 use Rattle.layout.specs.Bytes.{bytes}
 use Rattle.layout.specs.Written.{Said, says, no, Wrote, answerOf, leftOf, put, Put, roomed}
+use Rattle.layout.specs.Refusals.{ROOM}
 
 pub length-put : (out : List ℕ) (at : ℕ) (bs : List ℕ) → length (put out at bs) ≡ length out
 unfolding put
@@ -112,7 +113,7 @@ pub refusal : {s : Said} {out : List ℕ} {t : Told} → s ≡ no t → Wrote s 
 unfolding answerOf leftOf
 refusal e = record { answers = rw e; leaves = rw e }
 
-pub no-room : {s : Said} {out bs : List ℕ} {t : Told} → s ≡ says bs → length out < length bs → t ≡ bare 9 → Wrote s out (refused t) out
+pub no-room : {s : Said} {out bs : List ℕ} {t : Told} → s ≡ says bs → length out < length bs → t ≡ bare ROOM → Wrote s out (refused t) out
 unfolding answerOf leftOf
 no-room {s} {out} {bs} e h f = record { answers = rw (e, lt-leb (length bs) (length out) h, f); leaves = rw (e, lt-leb (length bs) (length out) h) }
 

@@ -35,7 +35,7 @@ pub fn write_heading(out: &mut [u8]) -> Written
 {
     let text = b"place way kind code tid bytes\n";
     if out.len() < 30 {
-        return Written::Refused(layout::plain(9));
+        return Written::Refused(layout::plain(layout::ROOM));
     }
     Written::Done(layout::copy(text, 0, 30, out, 0))
 }
@@ -110,7 +110,7 @@ pub fn write_ending(tally: Tally, out: &mut [u8]) -> Written
     let mut text = [0u8; 64];
     let n = line::put_ending(tally.records, tally.place, &mut text);
     if out.len() < n {
-        return Written::Refused(layout::plain(9));
+        return Written::Refused(layout::plain(layout::ROOM));
     }
     Written::Done(layout::copy(&text[..n], 0, n, out, 0))
 }

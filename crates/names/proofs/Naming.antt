@@ -10,6 +10,7 @@ use lib.Seq.{length-take-le}
 use Rattle.layout.specs.Answer.{Told, Answer, got, refused, bare}
 use Rattle.layout.specs.Written.{says, Wrote, Put, roomed}
 use Rattle.layout.proofs.Writing.{in-room, no-room, done}
+use Rattle.layout.specs.Refusals.{ROOM}
 use Rattle.names.specs.Says.{WroteName}
 
 wrote : {bs out new : List ℕ} {a : Answer (Unit {0})} → Wrote (says bs) out a new → WroteName (some bs) out (some a) new
@@ -24,7 +25,7 @@ module _ (a n : ℕ) (bs : List ℕ) (inside : a + n ≤ length bs) where
   long : length (take n (drop a bs)) ≡ n
   long = length-take-le n (drop a bs) (omega (arith, length-drop a bs))
 
-  pub name-refused : {out : List ℕ} {t : Told} → length out < n → t ≡ bare 9 → WroteName (some (take n (drop a bs))) out (some (refused t)) out
+  pub name-refused : {out : List ℕ} {t : Told} → length out < n → t ≡ bare ROOM → WroteName (some (take n (drop a bs))) out (some (refused t)) out
   name-refused h e = wrote (no-room refl (omega (arith, long)) e)
 
   pub name-done : {out new : List ℕ} {m : ℕ} → n ≤ length out → Put out 0 (roomed out 0 (take n (drop a bs))) new m → WroteName (some (take n (drop a bs))) out (some (got tt m)) new

@@ -230,7 +230,7 @@ fn write_entry(e: u16, names: &[u8], first: usize, out: &mut [u8]) -> Named
 {
     let len = (e % 64) as usize;
     if out.len() < len {
-        return Named::Refused(layout::plain(9));
+        return Named::Refused(layout::plain(layout::ROOM));
     }
     Named::Done(layout::copy(names, (e / 64) as usize - first, len, out, 0))
 }

@@ -17,6 +17,7 @@ use Rattle.layout.proofs.Make.{span-there, span-short}
 use Rattle.layout.proofs.Numbers.{length-bytes}
 use Rattle.layout.proofs.Tidied.{zero-one}
 use Rattle.layout.proofs.Stored.{first, more}
+use Rattle.layout.specs.Refusals.{RECORD, LONG}
 use Rattle.wire.specs.Places.{numAt}
 use Rattle.recording.specs.declared.Content.{Content}
 use Rattle.recording.specs.declared.Record.{Record}
@@ -37,11 +38,11 @@ long-enough len kind e = go (leb 6 len) refl e
 -- ── reading ──
 
 module _ (len kind : ℕ) (s : List ℕ) (start : ℕ) where
-  pub body-13 : {t : Told} → begins len kind ≡ false → t ≡ bare 13 → refused t ≡ bodyAt len kind s start
+  pub body-13 : {t : Told} → begins len kind ≡ false → t ≡ bare RECORD → refused t ≡ bodyAt len kind s start
   unfolding bodyAt
   body-13 e h = rw (e, h)
 
-  pub body-14 : {t : Told} → begins len kind ≡ true → limit < len - 6 → t ≡ bare 14 → refused t ≡ bodyAt len kind s start
+  pub body-14 : {t : Told} → begins len kind ≡ true → limit < len - 6 → t ≡ bare LONG → refused t ≡ bodyAt len kind s start
   unfolding bodyAt
   body-14 e l h = rw (e, lt-leb (len - 6) limit l, h)
 
@@ -81,11 +82,11 @@ module _ (kind : ℕ) (body : List ℕ) where
       (bytes 2 kind) (simp length-bytes (omega arith)) q)
       body (simp (length-append, length-bytes) (omega arith)) (rw (take-length body) at r)
 
-  pub said-13 : isKind kind ≡ false → recordSaid kind body ≡ no (bare 13)
+  pub said-13 : isKind kind ≡ false → recordSaid kind body ≡ no (bare RECORD)
   unfolding recordSaid
   said-13 e = rw e
 
-  pub said-14 : isKind kind ≡ true → limit < length body → recordSaid kind body ≡ no (bare 14)
+  pub said-14 : isKind kind ≡ true → limit < length body → recordSaid kind body ≡ no (bare LONG)
   unfolding recordSaid
   said-14 e h = rw (e, lt-leb (length body) limit h)
 

@@ -8,6 +8,7 @@ use lib.ListN.{length, take}
 use Rattle.layout.specs.Answer.{Answer, got, refused, Reader, pick, after, means, bare, spanAt}
 use Rattle.layout.specs.Bytes.{bytes}
 use Rattle.layout.specs.Written.{Said, no, saidOf}
+use Rattle.layout.specs.Refusals.{TRAIL, RECORD, LONG}
 use Rattle.wire.specs.Places.{numAt}
 use Rattle.wire.specs.Container.{containerAt}
 use Rattle.recording.specs.declared.Content.{Content}
@@ -35,7 +36,7 @@ begins len kind = pick (leb 6 len) (isKind kind) false
 unfoldable pub contentAt : ℕ → Reader Content
 contentAt kind s at =
     pick (eqb kind 3) (got content.Note (length s))
-    (after (containerAt s at) λ x n. pick (eqb n (length s)) (got (content.Holds x) n) (refused (bare 3)))
+    (after (containerAt s at) λ x n. pick (eqb n (length s)) (got (content.Holds x) n) (refused (bare TRAIL)))
 
 -- ── reading, from the front of the bytes ──
 
@@ -46,8 +47,8 @@ bodyAt len kind s start =
     (pick (leb (len - 6) limit)
     (after (spanAt start (len - 6) s start) λ _ next.
     means (λ c. record { kind = kind; body = record { start = start; count = len - 6 }; content = c }) (contentAt kind (take next s) start))
-    (refused (bare 14)))
-    (refused (bare 13))
+    (refused (bare LONG)))
+    (refused (bare RECORD))
 
 unfoldable pub recordOf : List ℕ → Answer Record
 recordOf s =
@@ -63,8 +64,8 @@ recordWord kind body = bytes 4 (6 + length body) ++ bytes 2 kind ++ body
 unfoldable pub recordSaid : ℕ → List ℕ → Said
 recordSaid kind body =
     pick (isKind kind)
-    (pick (leb (length body) limit) (saidOf (means (λ _. recordWord kind body) (contentAt kind body 0))) (no (bare 14)))
-    (no (bare 13))
+    (pick (leb (length body) limit) (saidOf (means (λ _. recordWord kind body) (contentAt kind body 0))) (no (bare LONG)))
+    (no (bare RECORD))
 
 -- ── this paper's values for each case ──
 

@@ -69,7 +69,7 @@ fn content_at(kind: u16, s: &[u8], at: usize) -> ReadContent
     match wire::read_container(s, Cursor { at }) {
         ReadContainer::Got(x, next) => {
             if next.at != s.len() {
-                return ReadContent::Refused(layout::plain(3));
+                return ReadContent::Refused(layout::plain(layout::TRAIL));
             }
             ReadContent::Got(Content::Holds(x), next)
         }
@@ -83,11 +83,11 @@ fn body_at(len: u32, kind: u16, s: &[u8], start: usize) -> ReadRecord
     ensures { λ r. ⌜ saysRecord r ≡ bodyAt len kind (now (s .entry)) start ⌝ }
 {
     if !begins(len, kind) {
-        return ReadRecord::Refused(layout::plain(13));
+        return ReadRecord::Refused(layout::plain(layout::RECORD));
     }
     let count = (len - 6) as usize;
     if count > LIMIT {
-        return ReadRecord::Refused(layout::plain(14));
+        return ReadRecord::Refused(layout::plain(layout::LONG));
     }
     if s.len() - start < count {
         return ReadRecord::Refused(layout::end_at(start));
@@ -152,7 +152,7 @@ fn put_record(kind: u16, body: &[u8], out: &mut [u8]) -> Written
 {
     let whole = 6 + body.len();
     if out.len() < whole {
-        return Written::Refused(layout::plain(9));
+        return Written::Refused(layout::plain(layout::ROOM));
     }
     let a = layout::store(out, 0, 4, whole as u64);
     let b = layout::store(out, a, 2, kind as u64);
@@ -164,10 +164,10 @@ pub fn write_record(kind: u16, body: &[u8], out: &mut [u8]) -> Written
     ensures { λ r. ⌜ Wrote (recordSaid kind (now (body .entry))) (now (out .entry)) (saysWritten r) (now (out .exit)) ⌝ }
 {
     if !is_kind(kind) {
-        return Written::Refused(layout::plain(13));
+        return Written::Refused(layout::plain(layout::RECORD));
     }
     if body.len() > LIMIT {
-        return Written::Refused(layout::plain(14));
+        return Written::Refused(layout::plain(layout::LONG));
     }
     match content_at(kind, body, 0) {
         ReadContent::Got(_, _) => put_record(kind, body, out),

@@ -15,6 +15,7 @@ use Rattle.layout.specs.Written.{says, no, Put, spelling, roomed}
 use Rattle.layout.proofs.Numbers.{Bytes-take, Bytes-drop}
 use Rattle.layout.proofs.Tidied.{measured, unmeasured}
 use Rattle.layout.proofs.Writing.{then-roomy}
+use Rattle.layout.specs.Refusals.{PLACE}
 use Rattle.wire.specs.Utf8.{utf8At}
 use Rattle.wire.proofs.Points.{utf8-short}
 use Rattle.tree.specs.Facts.{Ruled}
@@ -113,7 +114,7 @@ module _ (t : Table) (k : ℕ) where
   unfolding pathSaid
   said-table e = rw (← e)
 
-  pub said-absent : {n : ℕ} → got tt n ≡ tableAt t → length (t .parents) ≤ k → pathSaid t k ≡ no (bare 12)
+  pub said-absent : {n : ℕ} → got tt n ≡ tableAt t → length (t .parents) ≤ k → pathSaid t k ≡ no (bare PLACE)
   unfolding pathSaid
   said-absent e h = rw (← e, le-ltb k (length (t .parents)) h)
 

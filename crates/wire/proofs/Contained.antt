@@ -18,6 +18,7 @@ use Rattle.layout.proofs.Make.{Spanned, there, short, spanned}
 use Rattle.layout.proofs.Numbers.{length-bytes, number-lt, Bytes-take, Bytes-drop}
 use Rattle.layout.proofs.Tidied.{zero-one}
 use Rattle.layout.proofs.Stored.{first, more}
+use Rattle.layout.specs.Refusals.{KIND, COUNT}
 use Rattle.wire.specs.Container.{isKind, headerRest, headerAt, containerAt, containerWord, containerSaid, paramBytes, commandSaid}
 use Rattle.wire.specs.Places.{numAt}
 use Rattle.wire.specs.declared.container.Command.{Command}
@@ -56,11 +57,11 @@ module _ (kind code number : ℕ) (payload : List ℕ) where
       (bytes 4 number) (simp (length-append, length-bytes) (omega arith)) s)
       payload (simp (length-append, length-bytes) (omega arith)) (rw (take-length payload) at t)
 
-  pub said-4 : isKind kind ≡ false → containerSaid kind code number payload ≡ no (bare 4)
+  pub said-4 : isKind kind ≡ false → containerSaid kind code number payload ≡ no (bare KIND)
   unfolding containerSaid
   said-4 e = rw e
 
-  pub said-10 : isKind kind ≡ true → 4294967283 < length payload → containerSaid kind code number payload ≡ no (bare 10)
+  pub said-10 : isKind kind ≡ true → 4294967283 < length payload → containerSaid kind code number payload ≡ no (bare COUNT)
   unfolding containerSaid
   said-10 e h = rw (e, lt-leb (length payload) 4294967283 h)
 
@@ -79,7 +80,7 @@ pub params-step : (n : ℕ) (ps : List ℕ) → paramBytes (n + 1) ps ≡ paramB
 unfolding paramBytes
 params-step n ps = rw add-one
 
-pub said-count : (c : Command) (number : ℕ) → 5 < c .count → commandSaid c number ≡ no (bare 10)
+pub said-count : (c : Command) (number : ℕ) → 5 < c .count → commandSaid c number ≡ no (bare COUNT)
 unfolding commandSaid
 said-count c number h = rw (lt-leb (c .count) 5 h)
 

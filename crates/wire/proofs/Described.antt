@@ -2,14 +2,15 @@
 -- Assumes nothing.
 use mathlib.Core.Path.{_≡_, refl, ap, sym, _∙_}
 use mathlib.Core.List.{List, [], _∷_}
-use Prim.Native.Nat.{ℕ, zero, suc, _+_, _≤_}
+use Prim.Native.Nat.{ℕ, zero, suc, _+_, _-_, _≤_}
 use native.Mathlib.Omega.{arith}
-use borrow.Author.Tests.{ne-eqb}
+use borrow.Author.Tests.{ne-eqb, eq-eqb}
 use lib.Dec.{eqb}
 use lib.ListN.{length, replicate}
 use Rattle.layout.specs.Answer.{Told, Answer, got, refused, after, means, pick}
 use Rattle.layout.specs.Codec.{Codec, numbered, _and_, cons-write, repeated, through}
 use Rattle.layout.specs.Placed.{Inside, Placed, Lies, lies, nowhere}
+use Rattle.layout.proofs.Local.{repeated-local, alone}
 use Rattle.layout.proofs.Meets.{lies-after}
 use Rattle.layout.proofs.Reading.{means-means, means-same}
 use Rattle.layout.proofs.Tidied.{zero-one}
@@ -20,9 +21,10 @@ use Rattle.wire.specs.declared.property.Form.the-variants as code
 use Rattle.wire.specs.Layout.{Val, shape, Form, range, list, reading}
 use Rattle.wire.specs.Codecs.{value, row, three, listed, formed, form, property}
 use Rattle.wire.specs.Places.{numAt, Located, valueAt, shapeIn}
-use Rattle.wire.specs.Property.{between, slotAt, valuesAt, rangeAt, listAt, formAt, propertyAt, slotIn, formIn, propertyIn}
+use Rattle.wire.specs.Property.{between, slotAt, valuesAt, rangeAt, listAt, formAt, propertyAt, slotIn, valuesIn, formIn, propertyIn}
 use Rattle.wire.specs.Tidy.{rowWord, types}
 use Rattle.wire.proofs.Located.{values, num-lies, shape-parts}
+use Rattle.wire.proofs.Locals.{value-local}
 use Rattle.wire.proofs.RowWords.{types-one}
 
 -- ── what was measured of values, as places ──
@@ -74,12 +76,19 @@ end-link {L} F s p hd g m k x e f = rw (← e) (go x)
     go (got l q) = f l q
     go (refused t) = refl
 
+-- what is read at a place is what the bytes from there up to the place after it mean
+pub slot-in : (t : ℕ) (s : List ℕ) (at : ℕ) (v : Val) (n : ℕ) → (value t) .read s at ≡ got v n → slotIn t s (between at n) ≡ v
+slot-in t s at v n e = rw ((alone (value-local t) s at v n e) .1, eq-eqb (n - at) (n - at) refl)
+
+pub values-in : (t m : ℕ) (s : List ℕ) (at : ℕ) (vs : List Val) (n : ℕ) → (repeated m (value t)) .read s at ≡ got vs n → valuesIn t s (between at n) m ≡ vs
+values-in t m s at vs n e = rw ((alone (repeated-local m (value-local t)) s at vs n e) .1, eq-eqb (n - at) (n - at) refl)
+
 slot-means : (t : ℕ) (s : List ℕ) (p : ℕ) → means (slotIn t s) (slotAt t s p) ≡ (value t) .read s p
 unfolding valuesAt after means
 slot-means t s p = go ((value t) .read s p) refl
   where
     go : (x : Answer Val) → (value t) .read s p ≡ x → means (slotIn t s) (after (means (λ (v : Val × List Val). v .0 ∷ v .1) (after x λ a n. means (λ (b : List Val). (a, b)) (got [] n))) λ _ n. got (between p n) n) ≡ x
-    go (got v n) e = rw e
+    go (got v n) e = ap (λ u. got u n) (slot-in t s p v n e)
     go (refused u) e = refl
 
 range-means : (t : ℕ) (s : List ℕ) (p : ℕ) → means (formIn t s) (rangeAt t s p) ≡ means (λ x. range (x .0) (x .1 .0) (x .1 .1)) ((three t) .read s p)
@@ -95,7 +104,7 @@ list-means t s p = go (numAt 2 s p)
   where
     inner : (n start : ℕ) (x : Answer (List Val)) → (repeated n (value t)) .read s start ≡ x
         → means (formIn t s) (after (after x λ _ next. got (between start next) next) λ bytes next. got (code.List bytes n) next) ≡ means list x
-    inner n start (got vs m) e = rw e
+    inner n start (got vs m) e = ap (λ us. got (list us) m) (values-in t n s start vs m e)
     inner n start (refused u) e = refl
 
     go : (x : Answer ℕ) → means (formIn t s) (after x λ n start. after (after ((repeated n (value t)) .read s start) λ _ next. got (between start next) next) λ bytes next. got (code.List bytes n) next)
@@ -152,14 +161,15 @@ value-from t s at v n e = go (valueAt t s at) ((values t) .inside s at) ((values
     go (got l m) (lies l′ m′ h i) e = let f : m ≡ n = cc in omega arith
     go (refused u) nowhere e = zero-one (cc)
 
--- a value that is read is had by its place too
-pub located-means : (t : ℕ) (s : List ℕ) (at : ℕ) (v : Val) (n : ℕ) → (value t) .read s at ≡ got v n → (l : Located) × (valueAt t s at ≡ got l n)
+-- a value that is read, by its place: what it means, and that its parts lie within
+pub located-is : (t : ℕ) (s : List ℕ) (at : ℕ) (v : Val) (n : ℕ) → (value t) .read s at ≡ got v n
+    → (l : Located) × (valueAt t s at ≡ got l n) × (shapeIn (shape t) s l ≡ v) × Inside at n (shape-parts (shape t) l)
 unfolding means
-located-means t s at v n e = go (valueAt t s at) ((values t) .agrees s at ∙ e)
+located-is t s at v n e = go (valueAt t s at) ((values t) .inside s at) ((values t) .agrees s at ∙ e)
   where
-    go : (x : Answer Located) → means (shapeIn (shape t) s) x ≡ got v n → (l : Located) × (x ≡ got l n)
-    go (got l m) e = (l, ap (got l) (cc))
-    go (refused u) e = zero-one (cc)
+    go : (x : Answer Located) → Lies (shape-parts (shape t)) at x → means (shapeIn (shape t) s) x ≡ got v n → (l : Located) × (x ≡ got l n) × (shapeIn (shape t) s l ≡ v) × Inside at n (shape-parts (shape t) l)
+    go (got l m) (lies l′ m′ h i) e = let f : m ≡ n = cc in (l, ap (got l) f, cc, rw f at i)
+    go (refused u) nowhere e = zero-one (cc)
 
 pub located-from : (t : ℕ) (s : List ℕ) (at : ℕ) (l : Located) (n : ℕ) → got l n ≡ valueAt t s at → at ≤ n
 located-from t s at l n e = go (valueAt t s at) ((values t) .inside s at) e

@@ -37,7 +37,7 @@ numbers-back k (suc m) w ns (as′ (both {u} {v} {a} {b} g h)) = cc (number-back
 
 -- ── strings ──
 
-all-units-format : (n : ℕ) → Format (Repeat n (Number 2) then λ _. Spare 2) (all-units n)
+pub all-units-format : (n : ℕ) → Format (Repeat n (Number 2) then λ _. Spare 2) (all-units n)
 all-units-format n = then-format (cells-format 2 n) λ _. spare-format 2
 
 units-format : (n : ℕ) → Format (Units n) (units n)

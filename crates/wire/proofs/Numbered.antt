@@ -26,6 +26,7 @@ use Rattle.layout.proofs.Make.{cells-all, cells-format}
 use Rattle.layout.proofs.Numbers.{length-bytes}
 use Rattle.layout.proofs.Single.{single-number, single-repeat}
 use Rattle.layout.proofs.Tidied.{zero-one}
+use Rattle.layout.specs.Refusals.{COUNT}
 use Rattle.wire.specs.declared.given.Bits.{Bits}
 use Rattle.wire.specs.Layout.{paired}
 use Rattle.wire.specs.Codecs.{unsigned, array}
@@ -147,7 +148,7 @@ module _ (us : List ℕ) where
   said-unpaired e = rw e
 
   module _ (e : paired us ≡ true) where
-    pub said-long : 254 < length us → textSaid us ≡ no (bare 10)
+    pub said-long : 254 < length us → textSaid us ≡ no (bare COUNT)
     unfolding textSaid
     said-long h = rw (e, lt-leb (length us) 254 h)
 
@@ -165,12 +166,12 @@ items-stand w n bs h e =
     rw (length-cells w n bs, ← f)
 
 module _ (w : ℕ) (bs : List ℕ) (some : 0 < w) where
-  pub said-part : (length bs % w ≡ 0 → ⊥) → itemsSaid w bs ≡ no (bare 10)
+  pub said-part : (length bs % w ≡ 0 → ⊥) → itemsSaid w bs ≡ no (bare COUNT)
   unfolding itemsSaid
   said-part h = rw (ne-eqb (length bs % w) 0 h)
 
   module _ (whole : length bs % w ≡ 0) where
-    pub said-many : 0xFFFFFFFF < length bs / w → itemsSaid w bs ≡ no (bare 10)
+    pub said-many : 0xFFFFFFFF < length bs / w → itemsSaid w bs ≡ no (bare COUNT)
     unfolding itemsSaid
     said-many h = rw (eq-eqb (length bs % w) 0 whole, lt-leb (length bs / w) 0xFFFFFFFF h)
 

@@ -19,7 +19,7 @@ use Rattle.wire.specs.Codecs.{value}
 use Rattle.wire.specs.Property.{between, valuesAt, propertyAt}
 use Rattle.wire.specs.TidyProperty.{Taken, WellForm}
 use Rattle.wire.specs.List.{valueSlot, nthValue, nthIn, nthAt, placeOf, placeFrom, Stepped, next, end, stepAt}
-use Rattle.wire.proofs.Described.{located-means, row-values}
+use Rattle.wire.proofs.Described.{located-is, row-values}
 use Rattle.wire.proofs.TidyWords.{well-read}
 
 -- the place after k steps from a place
@@ -32,19 +32,19 @@ stepsTo zero s t at left = at
 stepsTo (suc k) s t at left = stepsTo k s t (moves (stepAt s t at left 0) at) (left - 1)
 
 -- what reading n values finds, the first of them and the rest
-past : (t n : ℕ) (s : List ℕ) (at : ℕ) (vs : List Val) (m : ℕ) → (repeated (suc n) (value t)) .read s at ≡ got vs m
-    → (v : Val) × (q : ℕ) × (ws : List Val) × ((value t) .read s at ≡ got v q) × ((repeated n (value t)) .read s q ≡ got ws m)
+pub past : (t n : ℕ) (s : List ℕ) (at : ℕ) (vs : List Val) (m : ℕ) → (repeated (suc n) (value t)) .read s at ≡ got vs m
+    → (v : Val) × (q : ℕ) × (ws : List Val) × ((value t) .read s at ≡ got v q) × ((repeated n (value t)) .read s q ≡ got ws m) × (vs ≡ v ∷ ws)
 unfolding means after
 past t n s at vs m e = first ((value t) .read s at) refl e
   where
     rest : (v : Val) (q : ℕ) (x : Answer (List Val)) → (repeated n (value t)) .read s q ≡ x → (value t) .read s at ≡ got v q
         → means (λ (y : Val × List Val). y .0 ∷ y .1) (means (λ b. (v, b)) x) ≡ got vs m
-        → (v : Val) × (q : ℕ) × (ws : List Val) × ((value t) .read s at ≡ got v q) × ((repeated n (value t)) .read s q ≡ got ws m)
-    rest v q (got ws k) f g e = let h : k ≡ m = cc in (v, q, ws, g, f ∙ ap (got ws) h)
+        → (v : Val) × (q : ℕ) × (ws : List Val) × ((value t) .read s at ≡ got v q) × ((repeated n (value t)) .read s q ≡ got ws m) × (vs ≡ v ∷ ws)
+    rest v q (got ws k) f g e = let h : k ≡ m = cc in (v, q, ws, g, f ∙ ap (got ws) h, cc)
     rest v q (refused u) f g e = zero-one (cc)
 
     first : (x : Answer Val) → (value t) .read s at ≡ x → means (λ (y : Val × List Val). y .0 ∷ y .1) (after x λ a q. means (λ b. (a, b)) ((repeated n (value t)) .read s q)) ≡ got vs m
-        → (v : Val) × (q : ℕ) × (ws : List Val) × ((value t) .read s at ≡ got v q) × ((repeated n (value t)) .read s q ≡ got ws m)
+        → (v : Val) × (q : ℕ) × (ws : List Val) × ((value t) .read s at ≡ got v q) × ((repeated n (value t)) .read s q ≡ got ws m) × (vs ≡ v ∷ ws)
     first (got v q) f e = rest v q ((repeated n (value t)) .read s q) refl f e
     first (refused u) f e = zero-one (cc)
 
@@ -55,7 +55,7 @@ steps-past zero n h t s at vs m e = refl
 steps-past (suc k) zero h t s at vs m e = let z : ⊥ = omega arith in absurd z
 steps-past (suc k) (suc n) h t s at vs m e =
     let p = past t n s at vs m e in
-    let l = located-means t s at (p .0) (p .1) (p .3) in
+    let l = located-is t s at (p .0) (p .1) (p .3) in
     let less : suc n - 1 ≡ n = omega arith in
     let ih = steps-past k n (omega arith) t s (p .1) (p .2) m (p .4) in
     rw (p .3, ne-eqb (suc n) 0 (λ z. omega arith), l .1, less) (onward (p .0) (p .1) ((repeated k (value t)) .read s (p .1)) (stepsTo k s t (p .1) n) ih)

@@ -5,6 +5,7 @@ use Prim.Native.Nat.{ℕ, _-_}
 use lib.Dec.{eqb, ltb}
 use denote.Ref.{RefT}
 use Rattle.layout.specs.Answer.{Answer, got, refused, Reader, pick, after, bare}
+use Rattle.layout.specs.Refusals.{PLACE}
 use Rattle.wire.specs.Places.{Located, valueAt}
 use Rattle.wire.specs.Says.{located}
 use Rattle.wire.specs.Property.{between, valuesAt, propertyAt}
@@ -29,9 +30,9 @@ unfoldable pub nthValue : ℕ → ℕ → Reader (Located × Slot)
 nthValue t n s start = after (valuesAt t n s start) λ _ at. valueSlot t s at
 
 unfoldable pub nthIn : ℕ → ℕ → Form → List ℕ → Answer (Located × Slot)
-nthIn n t (form.List p count) s = pick (ltb n count) (nthValue t n s (p .start)) (refused (bare 12))
-nthIn n t (form.Range a b c) s = refused (bare 12)
-nthIn n t form.Absent s = refused (bare 12)
+nthIn n t (form.List p count) s = pick (ltb n count) (nthValue t n s (p .start)) (refused (bare PLACE))
+nthIn n t (form.Range a b c) s = refused (bare PLACE)
+nthIn n t form.Absent s = refused (bare PLACE)
 
 unfoldable pub nthAt : ℕ → List ℕ → Answer (Located × Slot)
 nthAt n s = after (propertyAt s 0) λ x _. nthIn n (x .«data_type») (x .form) s

@@ -1,11 +1,12 @@
 -- A property's description as the code answers it, and what it means.
 -- Assumes nothing.
-use mathlib.Core.List.{List, []}
+use mathlib.Core.List.{List, [], _∷_}
 use Prim.Native.Nat.{ℕ, _-_}
 use lib.Dec.{eqb}
+use lib.ListN.{take, drop}
 use Rattle.layout.specs.Answer.{Answer, got, refused, Reader, pick, after}
 use Rattle.layout.specs.Codec.{repeated}
-use Rattle.wire.specs.Layout.{Val, nil, Form, range, list, no-form, Reading}
+use Rattle.wire.specs.Layout.{Shape, one, many, string, undef, shape, Val, str, nil, Form, range, list, no-form, Reading}
 use Rattle.wire.specs.Codecs.{value}
 use Rattle.wire.specs.Places.{numAt}
 use Rattle.wire.specs.declared.property.Slot.{Slot}
@@ -73,17 +74,28 @@ saysProperty (readProperty.Refused t) = refused t
 
 -- ── what places mean ──
 
--- what was read, if it was
-abbrev pub read-or : {A : Type 0} → A → Answer A → A
-read-or a (got b n) = b
-read-or a (refused t) = a
+-- the bytes of a part
+abbrev pub bytesOf : List ℕ → Slot → List ℕ
+bytesOf s p = take (p .len) (drop (p .start) s)
 
--- the value of a type at a place, and so many of them
+-- what was read, if all n bytes were; else `other`
+abbrev pub filling : {A : Type 0} → ℕ → A → Answer A → A
+filling n other (got a m) = pick (eqb m n) a other
+filling n other (refused t) = other
+
+-- what is no value of that shape, so that a part which is not exactly one means none
+abbrev pub none-of : Shape → Val
+none-of (one k) = nil
+none-of (many k) = nil
+none-of string = nil
+none-of undef = str []
+
+-- the value of a type that the bytes of a part are, all of them; and so many values
 abbrev pub slotIn : ℕ → List ℕ → Slot → Val
-slotIn t s p = read-or nil ((value t) .read s (p .start))
+slotIn t s p = filling (p .len) (none-of (shape t)) ((value t) .read (bytesOf s p) 0)
 
 abbrev pub valuesIn : ℕ → List ℕ → Slot → ℕ → List Val
-valuesIn t s p n = read-or [] ((repeated n (value t)) .read s (p .start))
+valuesIn t s p n = filling (p .len) (none-of (shape t) ∷ []) ((repeated n (value t)) .read (bytesOf s p) 0)
 
 abbrev pub formIn : ℕ → List ℕ → F.Form → Form
 formIn t s (form.Range a b c) = range (slotIn t s a) (slotIn t s b) (slotIn t s c)

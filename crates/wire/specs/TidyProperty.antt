@@ -6,8 +6,6 @@ use mathlib.Core.List.{List, [], _∷_, _++_}
 use Prim.Native.Nat.{ℕ}
 use Rattle.layout.specs.Bytes.{bytes}
 use Rattle.layout.specs.Written.{took, spelling}
-use Rattle.wire.specs.Codecs.{property}
-use Rattle.wire.specs.Property.{propertyIn}
 use Rattle.wire.specs.Tidy.{rowWord, types}
 use Rattle.wire.specs.declared.property.PropInfo.{PropInfo}
 use Rattle.wire.specs.declared.property.Form.{Form}
@@ -31,9 +29,10 @@ formWord t s (form.Range a b c) = rangeWord t s (a .start) (b .start) (c .start)
 formWord t s (form.List p n) = listWord t s (p .start) n
 formWord t s form.Absent = bytes 1 0
 
--- the writer's own word of the reading: what the parts come to
 unfoldable pub propertyWord : List ℕ → PropInfo → List ℕ
-propertyWord s x = property .write (propertyIn s x)
+propertyWord s x =
+    let t = x .«data_type» in
+    headerWord x ++ valuesWord t 1 s (x .«factory_default» .start) ++ valuesWord t 1 s (x .current .start) ++ formWord t s (x .form)
 
 -- ── the values were read ──
 

@@ -55,11 +55,11 @@ fn nth_of(f: Form, code: u16, s: &[u8], n: usize) -> ReadNth
             if n < count as usize {
                 nth_value(s, code, p.start, n)
             } else {
-                ReadNth::Refused(layout::plain(12))
+                ReadNth::Refused(layout::plain(layout::PLACE))
             }
         }
-        Form::Range(_, _, _) => ReadNth::Refused(layout::plain(12)),
-        Form::Absent => ReadNth::Refused(layout::plain(12)),
+        Form::Range(_, _, _) => ReadNth::Refused(layout::plain(layout::PLACE)),
+        Form::Absent => ReadNth::Refused(layout::plain(layout::PLACE)),
     }
 }
 

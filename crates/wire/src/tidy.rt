@@ -129,7 +129,7 @@ pub fn tidy_property(src: &[u8], out: &mut [u8]) -> Written
         ReadProperty::Refused(f) => Written::Refused(f),
         ReadProperty::Got(p, _) => {
             if out.len() < property_len(p, src) {
-                return Written::Refused(layout::plain(9));
+                return Written::Refused(layout::plain(layout::ROOM));
             }
             Written::Done(put_property(p, src, out))
         }

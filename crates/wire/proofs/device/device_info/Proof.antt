@@ -9,43 +9,71 @@ use Rattle.wire.proofs.device.device_info.Tie as tie
 returns : tie.Need-returns
 unfolding deviceAt
 returns c =
-    let g = c .before .before .before .before .before .before .before .before .before .before .before .before .before .before .before .before .before .before .before .before .before .before .before .before .before .before .before .before .before .before .before .before in
+    let at-text5 = c .before .before .before .before .before .before .before .before .before .before .before .before .before .before .before .before .before .before in
+    let at-text4 = at-text5 .before in
+    let at-text3 = at-text4 .before in
+    let at-text2 = at-text3 .before in
+    let at-items5 = at-text2 .before in
+    let at-items4 = at-items5 .before in
+    let at-items3 = at-items4 .before in
+    let at-items2 = at-items3 .before in
+    let at-items = at-items2 .before in
+    let at-number4 = at-items .before in
+    let at-text = at-number4 .before in
+    let at-number3 = at-text .before in
+    let at-number2 = at-number3 .before in
+    let at-number = at-number2 .before in
+    let g = at-number .before in
     begin (g .going .result) (g .before .before .args .c) (deviceAt (now (g .before .before .args .s))) (g .going .ensures)
-    (link _ _ _ _ _ (c .before .before .before .before .before .before .before .before .before .before .before .before .before .before .before .before .before .before .before .before .before .before .before .before .before .before .before .before .before .before .before .number .ensures .says)
-    (link _ _ _ _ _ (c .before .before .before .before .before .before .before .before .before .before .before .before .before .before .before .before .before .before .before .before .before .before .before .before .before .before .before .before .before .before .number2 .ensures .says)
-    (link _ _ _ _ _ (c .before .before .before .before .before .before .before .before .before .before .before .before .before .before .before .before .before .before .before .before .before .before .before .before .before .before .before .before .before .number3 .ensures .says)
-    (link _ _ _ _ _ (c .before .before .before .before .before .before .before .before .before .before .before .before .before .before .before .before .before .before .before .before .before .before .before .before .before .before .before .before .text .ensures)
-    (link _ _ _ _ _ (c .before .before .before .before .before .before .before .before .before .before .before .before .before .before .before .before .before .before .before .before .before .before .before .before .before .before .before .number4 .ensures .says)
-    (link _ _ _ _ _ (c .before .before .before .before .before .before .before .before .before .before .before .before .before .before .before .before .before .before .before .before .before .before .before .before .before .before .items .ensures)
-    (link _ _ _ _ _ (c .before .before .before .before .before .before .before .before .before .before .before .before .before .before .before .before .before .before .before .before .before .before .before .before .before .items2 .ensures)
-    (link _ _ _ _ _ (c .before .before .before .before .before .before .before .before .before .before .before .before .before .before .before .before .before .before .before .before .before .before .before .before .items3 .ensures)
-    (link _ _ _ _ _ (c .before .before .before .before .before .before .before .before .before .before .before .before .before .before .before .before .before .before .before .before .before .before .before .items4 .ensures)
-    (link _ _ _ _ _ (c .before .before .before .before .before .before .before .before .before .before .before .before .before .before .before .before .before .before .before .before .before .before .items5 .ensures)
-    (link _ _ _ _ _ (c .before .before .before .before .before .before .before .before .before .before .before .before .before .before .before .before .before .before .before .before .before .text2 .ensures)
-    (link _ _ _ _ _ (c .before .before .before .before .before .before .before .before .before .before .before .before .before .before .before .before .before .before .before .before .text3 .ensures)
-    (link _ _ _ _ _ (c .before .before .before .before .before .before .before .before .before .before .before .before .before .before .before .before .before .before .before .text4 .ensures)
-    (link _ _ _ _ _ (c .before .before .before .before .before .before .before .before .before .before .before .before .before .before .before .before .before .before .text5 .ensures)
+    (link _ _ _ _ _ (at-number .number .ensures .says)
+    (link _ _ _ _ _ (at-number2 .number2 .ensures .says)
+    (link _ _ _ _ _ (at-number3 .number3 .ensures .says)
+    (link _ _ _ _ _ (at-text .text .ensures)
+    (link _ _ _ _ _ (at-number4 .number4 .ensures .says)
+    (link _ _ _ _ _ (at-items .items .ensures)
+    (link _ _ _ _ _ (at-items2 .items2 .ensures)
+    (link _ _ _ _ _ (at-items3 .items3 .ensures)
+    (link _ _ _ _ _ (at-items4 .items4 .ensures)
+    (link _ _ _ _ _ (at-items5 .items5 .ensures)
+    (link _ _ _ _ _ (at-text2 .text2 .ensures)
+    (link _ _ _ _ _ (at-text3 .text3 .ensures)
+    (link _ _ _ _ _ (at-text4 .text4 .ensures)
+    (link _ _ _ _ _ (at-text5 .text5 .ensures)
     (whole _ _ (c .before .before .before .before .if1 .taken))))))))))))))))
 
 returns-2 : tie.Need-returns-2
 unfolding deviceAt
 returns-2 c =
-    let g = c .before .before .before .before .before .before .before .before .before .before .before .before .before .before .before .before .before .before .before .before .before .before .before .before .before .before .before .before in
+    let at-text5 = c .before .before .before .before .before .before .before .before .before .before .before .before .before .before in
+    let at-text4 = at-text5 .before in
+    let at-text3 = at-text4 .before in
+    let at-text2 = at-text3 .before in
+    let at-items5 = at-text2 .before in
+    let at-items4 = at-items5 .before in
+    let at-items3 = at-items4 .before in
+    let at-items2 = at-items3 .before in
+    let at-items = at-items2 .before in
+    let at-number4 = at-items .before in
+    let at-text = at-number4 .before in
+    let at-number3 = at-text .before in
+    let at-number2 = at-number3 .before in
+    let at-number = at-number2 .before in
+    let g = at-number .before in
     begin (g .going .result) (g .before .before .args .c) (deviceAt (now (g .before .before .args .s))) (g .going .ensures)
-    (link _ _ _ _ _ (c .before .before .before .before .before .before .before .before .before .before .before .before .before .before .before .before .before .before .before .before .before .before .before .before .before .before .before .number .ensures .says)
-    (link _ _ _ _ _ (c .before .before .before .before .before .before .before .before .before .before .before .before .before .before .before .before .before .before .before .before .before .before .before .before .before .before .number2 .ensures .says)
-    (link _ _ _ _ _ (c .before .before .before .before .before .before .before .before .before .before .before .before .before .before .before .before .before .before .before .before .before .before .before .before .before .number3 .ensures .says)
-    (link _ _ _ _ _ (c .before .before .before .before .before .before .before .before .before .before .before .before .before .before .before .before .before .before .before .before .before .before .before .before .text .ensures)
-    (link _ _ _ _ _ (c .before .before .before .before .before .before .before .before .before .before .before .before .before .before .before .before .before .before .before .before .before .before .before .number4 .ensures .says)
-    (link _ _ _ _ _ (c .before .before .before .before .before .before .before .before .before .before .before .before .before .before .before .before .before .before .before .before .before .before .items .ensures)
-    (link _ _ _ _ _ (c .before .before .before .before .before .before .before .before .before .before .before .before .before .before .before .before .before .before .before .before .before .items2 .ensures)
-    (link _ _ _ _ _ (c .before .before .before .before .before .before .before .before .before .before .before .before .before .before .before .before .before .before .before .before .items3 .ensures)
-    (link _ _ _ _ _ (c .before .before .before .before .before .before .before .before .before .before .before .before .before .before .before .before .before .before .before .items4 .ensures)
-    (link _ _ _ _ _ (c .before .before .before .before .before .before .before .before .before .before .before .before .before .before .before .before .before .before .items5 .ensures)
-    (link _ _ _ _ _ (c .before .before .before .before .before .before .before .before .before .before .before .before .before .before .before .before .before .text2 .ensures)
-    (link _ _ _ _ _ (c .before .before .before .before .before .before .before .before .before .before .before .before .before .before .before .before .text3 .ensures)
-    (link _ _ _ _ _ (c .before .before .before .before .before .before .before .before .before .before .before .before .before .before .before .text4 .ensures)
-    (link _ _ _ _ _ (c .before .before .before .before .before .before .before .before .before .before .before .before .before .before .text5 .ensures)
+    (link _ _ _ _ _ (at-number .number .ensures .says)
+    (link _ _ _ _ _ (at-number2 .number2 .ensures .says)
+    (link _ _ _ _ _ (at-number3 .number3 .ensures .says)
+    (link _ _ _ _ _ (at-text .text .ensures)
+    (link _ _ _ _ _ (at-number4 .number4 .ensures .says)
+    (link _ _ _ _ _ (at-items .items .ensures)
+    (link _ _ _ _ _ (at-items2 .items2 .ensures)
+    (link _ _ _ _ _ (at-items3 .items3 .ensures)
+    (link _ _ _ _ _ (at-items4 .items4 .ensures)
+    (link _ _ _ _ _ (at-items5 .items5 .ensures)
+    (link _ _ _ _ _ (at-text2 .text2 .ensures)
+    (link _ _ _ _ _ (at-text3 .text3 .ensures)
+    (link _ _ _ _ _ (at-text4 .text4 .ensures)
+    (link _ _ _ _ _ (at-text5 .text5 .ensures)
     (broken _ _ (c .if1 .left))))))))))))))))
 
 pub device-info-spec : {M : Type 1} → statement M

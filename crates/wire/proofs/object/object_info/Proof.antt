@@ -9,53 +9,91 @@ use Rattle.wire.proofs.object.object_info.Tie as tie
 returns : tie.Need-returns
 unfolding objectAt
 returns c =
-    let g = c .before .before .before .before .before .before .before .before .before .before .before .before .before .before .before .before .before .before .before .before .before .before .before .before .before .before .before .before .before .before .before .before .before .before .before .before .before .before .before .before .before .before in
+    let at-text4 = c .before .before .before .before .before .before .before .before .before .before .before .before .before .before .before .before .before .before .before .before .before .before .before in
+    let at-text3 = at-text4 .before in
+    let at-text2 = at-text3 .before in
+    let at-text = at-text2 .before in
+    let at-number15 = at-text .before in
+    let at-number14 = at-number15 .before in
+    let at-number13 = at-number14 .before in
+    let at-number12 = at-number13 .before in
+    let at-number11 = at-number12 .before in
+    let at-number10 = at-number11 .before in
+    let at-number9 = at-number10 .before in
+    let at-number8 = at-number9 .before in
+    let at-number7 = at-number8 .before in
+    let at-number6 = at-number7 .before in
+    let at-number5 = at-number6 .before in
+    let at-number4 = at-number5 .before in
+    let at-number3 = at-number4 .before in
+    let at-number2 = at-number3 .before in
+    let at-number = at-number2 .before in
+    let g = at-number .before in
     begin (g .going .result) (g .before .before .args .c) (objectAt (now (g .before .before .args .s))) (g .going .ensures)
-    (link _ _ _ _ _ (c .before .before .before .before .before .before .before .before .before .before .before .before .before .before .before .before .before .before .before .before .before .before .before .before .before .before .before .before .before .before .before .before .before .before .before .before .before .before .before .before .before .number .ensures .says)
-    (link _ _ _ _ _ (c .before .before .before .before .before .before .before .before .before .before .before .before .before .before .before .before .before .before .before .before .before .before .before .before .before .before .before .before .before .before .before .before .before .before .before .before .before .before .before .before .number2 .ensures .says)
-    (link _ _ _ _ _ (c .before .before .before .before .before .before .before .before .before .before .before .before .before .before .before .before .before .before .before .before .before .before .before .before .before .before .before .before .before .before .before .before .before .before .before .before .before .before .before .number3 .ensures .says)
-    (link _ _ _ _ _ (c .before .before .before .before .before .before .before .before .before .before .before .before .before .before .before .before .before .before .before .before .before .before .before .before .before .before .before .before .before .before .before .before .before .before .before .before .before .before .number4 .ensures .says)
-    (link _ _ _ _ _ (c .before .before .before .before .before .before .before .before .before .before .before .before .before .before .before .before .before .before .before .before .before .before .before .before .before .before .before .before .before .before .before .before .before .before .before .before .before .number5 .ensures .says)
-    (link _ _ _ _ _ (c .before .before .before .before .before .before .before .before .before .before .before .before .before .before .before .before .before .before .before .before .before .before .before .before .before .before .before .before .before .before .before .before .before .before .before .before .number6 .ensures .says)
-    (link _ _ _ _ _ (c .before .before .before .before .before .before .before .before .before .before .before .before .before .before .before .before .before .before .before .before .before .before .before .before .before .before .before .before .before .before .before .before .before .before .before .number7 .ensures .says)
-    (link _ _ _ _ _ (c .before .before .before .before .before .before .before .before .before .before .before .before .before .before .before .before .before .before .before .before .before .before .before .before .before .before .before .before .before .before .before .before .before .before .number8 .ensures .says)
-    (link _ _ _ _ _ (c .before .before .before .before .before .before .before .before .before .before .before .before .before .before .before .before .before .before .before .before .before .before .before .before .before .before .before .before .before .before .before .before .before .number9 .ensures .says)
-    (link _ _ _ _ _ (c .before .before .before .before .before .before .before .before .before .before .before .before .before .before .before .before .before .before .before .before .before .before .before .before .before .before .before .before .before .before .before .before .number10 .ensures .says)
-    (link _ _ _ _ _ (c .before .before .before .before .before .before .before .before .before .before .before .before .before .before .before .before .before .before .before .before .before .before .before .before .before .before .before .before .before .before .before .number11 .ensures .says)
-    (link _ _ _ _ _ (c .before .before .before .before .before .before .before .before .before .before .before .before .before .before .before .before .before .before .before .before .before .before .before .before .before .before .before .before .before .before .number12 .ensures .says)
-    (link _ _ _ _ _ (c .before .before .before .before .before .before .before .before .before .before .before .before .before .before .before .before .before .before .before .before .before .before .before .before .before .before .before .before .before .number13 .ensures .says)
-    (link _ _ _ _ _ (c .before .before .before .before .before .before .before .before .before .before .before .before .before .before .before .before .before .before .before .before .before .before .before .before .before .before .before .before .number14 .ensures .says)
-    (link _ _ _ _ _ (c .before .before .before .before .before .before .before .before .before .before .before .before .before .before .before .before .before .before .before .before .before .before .before .before .before .before .before .number15 .ensures .says)
-    (link _ _ _ _ _ (c .before .before .before .before .before .before .before .before .before .before .before .before .before .before .before .before .before .before .before .before .before .before .before .before .before .before .text .ensures)
-    (link _ _ _ _ _ (c .before .before .before .before .before .before .before .before .before .before .before .before .before .before .before .before .before .before .before .before .before .before .before .before .before .text2 .ensures)
-    (link _ _ _ _ _ (c .before .before .before .before .before .before .before .before .before .before .before .before .before .before .before .before .before .before .before .before .before .before .before .before .text3 .ensures)
-    (link _ _ _ _ _ (c .before .before .before .before .before .before .before .before .before .before .before .before .before .before .before .before .before .before .before .before .before .before .before .text4 .ensures)
+    (link _ _ _ _ _ (at-number .number .ensures .says)
+    (link _ _ _ _ _ (at-number2 .number2 .ensures .says)
+    (link _ _ _ _ _ (at-number3 .number3 .ensures .says)
+    (link _ _ _ _ _ (at-number4 .number4 .ensures .says)
+    (link _ _ _ _ _ (at-number5 .number5 .ensures .says)
+    (link _ _ _ _ _ (at-number6 .number6 .ensures .says)
+    (link _ _ _ _ _ (at-number7 .number7 .ensures .says)
+    (link _ _ _ _ _ (at-number8 .number8 .ensures .says)
+    (link _ _ _ _ _ (at-number9 .number9 .ensures .says)
+    (link _ _ _ _ _ (at-number10 .number10 .ensures .says)
+    (link _ _ _ _ _ (at-number11 .number11 .ensures .says)
+    (link _ _ _ _ _ (at-number12 .number12 .ensures .says)
+    (link _ _ _ _ _ (at-number13 .number13 .ensures .says)
+    (link _ _ _ _ _ (at-number14 .number14 .ensures .says)
+    (link _ _ _ _ _ (at-number15 .number15 .ensures .says)
+    (link _ _ _ _ _ (at-text .text .ensures)
+    (link _ _ _ _ _ (at-text2 .text2 .ensures)
+    (link _ _ _ _ _ (at-text3 .text3 .ensures)
+    (link _ _ _ _ _ (at-text4 .text4 .ensures)
     (whole _ _ (c .before .before .before .before .before .before .before .before .before .before .before .before .before .before .before .if1 .taken)))))))))))))))))))))
 
 returns-2 : tie.Need-returns-2
 unfolding objectAt
 returns-2 c =
-    let g = c .before .before .before .before .before .before .before .before .before .before .before .before .before .before .before .before .before .before .before .before .before .before .before .before .before .before .before in
+    let at-text4 = c .before .before .before .before .before .before .before .before in
+    let at-text3 = at-text4 .before in
+    let at-text2 = at-text3 .before in
+    let at-text = at-text2 .before in
+    let at-number15 = at-text .before in
+    let at-number14 = at-number15 .before in
+    let at-number13 = at-number14 .before in
+    let at-number12 = at-number13 .before in
+    let at-number11 = at-number12 .before in
+    let at-number10 = at-number11 .before in
+    let at-number9 = at-number10 .before in
+    let at-number8 = at-number9 .before in
+    let at-number7 = at-number8 .before in
+    let at-number6 = at-number7 .before in
+    let at-number5 = at-number6 .before in
+    let at-number4 = at-number5 .before in
+    let at-number3 = at-number4 .before in
+    let at-number2 = at-number3 .before in
+    let at-number = at-number2 .before in
+    let g = at-number .before in
     begin (g .going .result) (g .before .before .args .c) (objectAt (now (g .before .before .args .s))) (g .going .ensures)
-    (link _ _ _ _ _ (c .before .before .before .before .before .before .before .before .before .before .before .before .before .before .before .before .before .before .before .before .before .before .before .before .before .before .number .ensures .says)
-    (link _ _ _ _ _ (c .before .before .before .before .before .before .before .before .before .before .before .before .before .before .before .before .before .before .before .before .before .before .before .before .before .number2 .ensures .says)
-    (link _ _ _ _ _ (c .before .before .before .before .before .before .before .before .before .before .before .before .before .before .before .before .before .before .before .before .before .before .before .before .number3 .ensures .says)
-    (link _ _ _ _ _ (c .before .before .before .before .before .before .before .before .before .before .before .before .before .before .before .before .before .before .before .before .before .before .before .number4 .ensures .says)
-    (link _ _ _ _ _ (c .before .before .before .before .before .before .before .before .before .before .before .before .before .before .before .before .before .before .before .before .before .before .number5 .ensures .says)
-    (link _ _ _ _ _ (c .before .before .before .before .before .before .before .before .before .before .before .before .before .before .before .before .before .before .before .before .before .number6 .ensures .says)
-    (link _ _ _ _ _ (c .before .before .before .before .before .before .before .before .before .before .before .before .before .before .before .before .before .before .before .before .number7 .ensures .says)
-    (link _ _ _ _ _ (c .before .before .before .before .before .before .before .before .before .before .before .before .before .before .before .before .before .before .before .number8 .ensures .says)
-    (link _ _ _ _ _ (c .before .before .before .before .before .before .before .before .before .before .before .before .before .before .before .before .before .before .number9 .ensures .says)
-    (link _ _ _ _ _ (c .before .before .before .before .before .before .before .before .before .before .before .before .before .before .before .before .before .number10 .ensures .says)
-    (link _ _ _ _ _ (c .before .before .before .before .before .before .before .before .before .before .before .before .before .before .before .before .number11 .ensures .says)
-    (link _ _ _ _ _ (c .before .before .before .before .before .before .before .before .before .before .before .before .before .before .before .number12 .ensures .says)
-    (link _ _ _ _ _ (c .before .before .before .before .before .before .before .before .before .before .before .before .before .before .number13 .ensures .says)
-    (link _ _ _ _ _ (c .before .before .before .before .before .before .before .before .before .before .before .before .before .number14 .ensures .says)
-    (link _ _ _ _ _ (c .before .before .before .before .before .before .before .before .before .before .before .before .number15 .ensures .says)
-    (link _ _ _ _ _ (c .before .before .before .before .before .before .before .before .before .before .before .text .ensures)
-    (link _ _ _ _ _ (c .before .before .before .before .before .before .before .before .before .before .text2 .ensures)
-    (link _ _ _ _ _ (c .before .before .before .before .before .before .before .before .before .text3 .ensures)
-    (link _ _ _ _ _ (c .before .before .before .before .before .before .before .before .text4 .ensures)
+    (link _ _ _ _ _ (at-number .number .ensures .says)
+    (link _ _ _ _ _ (at-number2 .number2 .ensures .says)
+    (link _ _ _ _ _ (at-number3 .number3 .ensures .says)
+    (link _ _ _ _ _ (at-number4 .number4 .ensures .says)
+    (link _ _ _ _ _ (at-number5 .number5 .ensures .says)
+    (link _ _ _ _ _ (at-number6 .number6 .ensures .says)
+    (link _ _ _ _ _ (at-number7 .number7 .ensures .says)
+    (link _ _ _ _ _ (at-number8 .number8 .ensures .says)
+    (link _ _ _ _ _ (at-number9 .number9 .ensures .says)
+    (link _ _ _ _ _ (at-number10 .number10 .ensures .says)
+    (link _ _ _ _ _ (at-number11 .number11 .ensures .says)
+    (link _ _ _ _ _ (at-number12 .number12 .ensures .says)
+    (link _ _ _ _ _ (at-number13 .number13 .ensures .says)
+    (link _ _ _ _ _ (at-number14 .number14 .ensures .says)
+    (link _ _ _ _ _ (at-number15 .number15 .ensures .says)
+    (link _ _ _ _ _ (at-text .text .ensures)
+    (link _ _ _ _ _ (at-text2 .text2 .ensures)
+    (link _ _ _ _ _ (at-text3 .text3 .ensures)
+    (link _ _ _ _ _ (at-text4 .text4 .ensures)
     (broken _ _ (c .if1 .left)))))))))))))))))))))
 
 pub object-info-spec : {M : Type 1} → statement M

@@ -14,7 +14,7 @@ put-header-requires c κs =
     let k = c .before .before .before in
     let x = k .args .p in
     let s = now (k .args .src) in
-    let w = property-word s x (k .pre .0) in
+    let w = property-word s x in
     let z = ap length w ∙ parts-size s x in
     let hd = header-size x in
     omega arith
@@ -24,7 +24,7 @@ put-values-requires c κs =
     let k = c .before .before .before .before .before .before .before in
     let x = k .args .p in
     let s = now (k .args .src) in
-    let w = property-word s x (k .pre .0) in
+    let w = property-word s x in
     let z = ap length w ∙ parts-size s x in
     let hd = header-size x in
     let q = c .before .before .before .put-header .ensures in
@@ -35,7 +35,7 @@ put-values-requires-2 c κs =
     let k = c .before .before .before .before .before .before .before .before .before .before .before in
     let x = k .args .p in
     let s = now (k .args .src) in
-    let w = property-word s x (k .pre .0) in
+    let w = property-word s x in
     let z = ap length w ∙ parts-size s x in
     let hd = header-size x in
     let q = then (c .before .before .before .before .before .before .before .put-header .ensures) (c .before .before .before .put-values .ensures) in
@@ -46,7 +46,7 @@ put-form-requires c κs =
     let k = c .before .before .before .before .before .before .before .before .before .before .before .before .before .before .before in
     let x = k .args .p in
     let s = now (k .args .src) in
-    let w = property-word s x (k .pre .0) in
+    let w = property-word s x in
     let z = ap length w ∙ parts-size s x in
     let hd = header-size x in
     let q = then (then (c .before .before .before .before .before .before .before .before .before .before .before .put-header .ensures) (c .before .before .before .before .before .before .before .put-values .ensures)) (c .before .before .before .put-values2 .ensures) in
@@ -55,7 +55,7 @@ put-form-requires c κs =
 returns : tie.Need-returns
 returns c =
     let k = c .before .before .before .before .before .before .before .before .before .before .before .before .before .before .before .before .before .before in
-    rw (property-word (now (k .args .src)) (k .args .p) (k .pre .0))
+    rw (property-word (now (k .args .src)) (k .args .p))
     (then (then (then (c .before .before .before .before .before .before .before .before .before .before .before .before .before .before .put-header .ensures) (c .before .before .before .before .before .before .before .before .before .before .put-values .ensures)) (c .before .before .before .before .before .before .put-values2 .ensures)) (c .before .before .put-form .ensures))
 
 pub put-property-spec : {M : Type 1} → statement M

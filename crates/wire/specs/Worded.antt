@@ -1,0 +1,96 @@
+-- What the bytes of a description's parts are. Each part lies in the bytes and is as a whole, from its first byte to its last, a word of the
+-- layout with the reading's own value, which a longer or a shorter part is not; and each begins where the one before it ends. No reader stands here.
+-- Assumes nothing.
+use mathlib.Core.Path.{_≡_}
+use mathlib.Core.List.{List, [], _∷_}
+use Prim.Native.Nat.{ℕ, _+_, _≤_, _<_}
+use lib.ListN.{length, take, getD}
+use Rattle.layout.specs.Answer.{Answer, got, refused, bare}
+use Rattle.layout.specs.Grammar.{loose, Grammar, Repeat}
+use Rattle.layout.specs.Placed.{Inside}
+use Rattle.layout.specs.Refusals.{PLACE}
+use Rattle.wire.specs.Layout.{Val, nil, shape, Value, Form, range, list, no-form, Reading}
+use Rattle.wire.specs.Places.{Located, shapeIn}
+use Rattle.wire.specs.Property.{bytesOf}
+use Rattle.wire.specs.List.{Stepped, next, end}
+use Rattle.wire.specs.declared.property.Slot.{Slot}
+use Rattle.wire.specs.declared.property.Form as F
+use Rattle.wire.specs.declared.property.Form.the-variants as form
+use Rattle.wire.specs.declared.property.PropInfo.{PropInfo}
+
+-- the part lies in s, and its bytes are a word of G, read as r
+pub record Worded {R : Type 0} (G : Grammar R) (s : List ℕ) (p : Slot) (r : R) : Type 0 where
+  pub within : p .start + p .len ≤ length s
+  pub reads : G loose (bytesOf s p) r
+
+-- ── a description's own parts ──
+
+pub data WordedForm (t : ℕ) (s : List ℕ) : F.Form → Form → Type 0 where
+  a-range : {a b c : Slot} {x y z : Val} → Worded (Value t) s a x → Worded (Value t) s b y → Worded (Value t) s c z → WordedForm t s (form.Range a b c) (range x y z)
+  -- as many values as the answer says
+  a-list : {p : Slot} {n : ℕ} {vs : List Val} → Worded (Repeat n (Value t)) s p vs → WordedForm t s (form.List p n) (list vs)
+  absent : WordedForm t s form.Absent no-form
+
+-- the answer x says the reading r: its numbers are r's, and its parts are words with r's values
+pub record WordedProperty (s : List ℕ) (x : PropInfo) (r : Reading) : Type 0 where
+  pub code : x .«property_code» ≡ r .code
+  pub type : x .«data_type» ≡ r .type
+  pub getset : x .«get_set» ≡ r .getset
+  pub enable : x .«is_enable» ≡ r .enable
+  pub default : Worded (Value (r .type)) s (x .«factory_default») (r .default)
+  pub current : Worded (Value (r .type)) s (x .current) (r .current)
+  pub form : WordedForm (r .type) s (x .form) (r .form)
+
+-- where a part ends
+abbrev pub ends : Slot → ℕ
+ends p = p .start + p .len
+
+-- from the place of the form byte up to n, the place after the whole
+abbrev pub FormInOrder : ℕ → ℕ → F.Form → Type 0
+FormInOrder at n (form.Range a b c) = (a .start ≡ at + 1) × (b .start ≡ ends a) × (c .start ≡ ends b) × (n ≡ ends c)
+FormInOrder at n (form.List p count) = (p .start ≡ at + 3) × (n ≡ ends p)
+FormInOrder at n form.Absent = n ≡ at + 1
+
+-- the parts follow each other, behind the four numbers, without a gap
+pub record InOrder (x : PropInfo) (n : ℕ) : Type 0 where
+  pub default : x .«factory_default» .start ≡ 6
+  pub current : x .current .start ≡ ends (x .«factory_default»)
+  pub form : FormInOrder (ends (x .current)) n (x .form)
+
+-- ── the values of its list ──
+
+-- the k-th of the values vs that the part `all` is: the value l, its part p, and n, the place after it
+pub record Nth (t : ℕ) (parts : Located → List (ℕ × ℕ)) (s : List ℕ) (all : Slot) (vs : List Val) (k : ℕ) (l : Located) (p : Slot) (n : ℕ) : Type 0 where
+  pub is : shapeIn (shape t) s l ≡ getD vs k nil
+  pub bytes : Worded (Value t) s p (getD vs k nil)
+  -- from the start of `all` up to it stand, in `gap` bytes, the k values before it
+  pub gap : ℕ
+  pub from : p .start ≡ all .start + gap
+  pub before : Worded (Repeat k (Value t)) s (record { start = all .start; len = gap }) (take k vs)
+  pub till : p .start + p .len ≤ all .start + all .len
+  pub after : n ≡ p .start + p .len
+  pub inside : Inside (p .start) n (parts l)
+
+-- what is answered of the k-th, where the form f has the values vs: the k-th of them, or 12 past the last
+pub record Nths (t : ℕ) (parts : Located → List (ℕ × ℕ)) (s : List ℕ) (f : F.Form) (vs : List Val) (k : ℕ) (answer : Answer (Located × Slot)) : Type 0 where
+  pub found : k < length vs → (all : Slot) × (l : Located) × (p : Slot) × (n : ℕ) × (f ≡ form.List all (length vs)) × (answer ≡ got (l, p) n) × Nth t parts s all vs k l p n
+  pub past : length vs ≤ k → answer ≡ refused (bare PLACE)
+
+-- steps from a place, with so many left, give exactly the values vs, one after the other, then the end
+pub data Yields (t : ℕ) (s : List ℕ) (step : ℕ → ℕ → Stepped) : ℕ → ℕ → List Val → Type 0 where
+  ended : {at left : ℕ} → step at left ≡ end → Yields t s step at left []
+  yields : {at left len rest : ℕ} {l : Located} {v : Val} {vs : List Val} → step at left ≡ next l (at + len) rest → shapeIn (shape t) s l ≡ v → Worded (Value t) s (record { start = at; len = len }) v
+      → Yields t s step (at + len) rest vs → Yields t s step at left (v ∷ vs)
+
+-- a form's list, if it has one
+abbrev pub valuesOf : Form → List Val
+valuesOf (list vs) = vs
+valuesOf (range a b c) = []
+valuesOf no-form = []
+
+-- ── the newer value ──
+
+-- the bytes b that are handed out: the payload where it is exactly one value of the type, else a word of the current value
+pub record Picks (t : ℕ) (payload : List ℕ) (current : Val) (b : List ℕ) : Type 0 where
+  pub later : (v : Val) → Value t loose payload v → b ≡ payload
+  pub other : ((v : Val) → Value t loose payload v → ⊥) → Value t loose b current
