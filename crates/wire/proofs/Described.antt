@@ -20,10 +20,10 @@ use Rattle.wire.specs.declared.property.Form as F
 use Rattle.wire.specs.declared.property.Form.the-variants as code
 use Rattle.wire.specs.Layout.{Val, shape, Form, range, list, reading}
 use Rattle.wire.specs.Codecs.{value, row, three, listed, formed, form, property}
-use Rattle.wire.specs.Places.{numAt, Located, valueAt, shapeIn}
+use Rattle.wire.specs.Places.{numAt, Located, valueAt, shapeIn, shapeParts}
 use Rattle.wire.specs.Property.{between, slotAt, valuesAt, rangeAt, listAt, formAt, propertyAt, slotIn, valuesIn, formIn, propertyIn}
 use Rattle.wire.specs.Tidy.{rowWord, types}
-use Rattle.wire.proofs.Located.{values, num-lies, shape-parts}
+use Rattle.wire.proofs.Located.{values, num-lies}
 use Rattle.wire.proofs.Locals.{value-local}
 use Rattle.wire.proofs.RowWords.{types-one}
 
@@ -157,24 +157,24 @@ value-from : (t : ℕ) (s : List ℕ) (at : ℕ) (v : Val) (n : ℕ) → (value 
 unfolding means
 value-from t s at v n e = go (valueAt t s at) ((values t) .inside s at) ((values t) .agrees s at ∙ e)
   where
-    go : (x : Answer Located) → Lies (shape-parts (shape t)) at x → means (shapeIn (shape t) s) x ≡ got v n → at ≤ n
+    go : (x : Answer Located) → Lies (shapeParts (shape t)) at x → means (shapeIn (shape t) s) x ≡ got v n → at ≤ n
     go (got l m) (lies l′ m′ h i) e = let f : m ≡ n = cc in omega arith
     go (refused u) nowhere e = zero-one (cc)
 
 -- a value that is read, by its place: what it means, and that its parts lie within
 pub located-is : (t : ℕ) (s : List ℕ) (at : ℕ) (v : Val) (n : ℕ) → (value t) .read s at ≡ got v n
-    → (l : Located) × (valueAt t s at ≡ got l n) × (shapeIn (shape t) s l ≡ v) × Inside at n (shape-parts (shape t) l)
+    → (l : Located) × (valueAt t s at ≡ got l n) × (shapeIn (shape t) s l ≡ v) × Inside at n (shapeParts (shape t) l)
 unfolding means
 located-is t s at v n e = go (valueAt t s at) ((values t) .inside s at) ((values t) .agrees s at ∙ e)
   where
-    go : (x : Answer Located) → Lies (shape-parts (shape t)) at x → means (shapeIn (shape t) s) x ≡ got v n → (l : Located) × (x ≡ got l n) × (shapeIn (shape t) s l ≡ v) × Inside at n (shape-parts (shape t) l)
+    go : (x : Answer Located) → Lies (shapeParts (shape t)) at x → means (shapeIn (shape t) s) x ≡ got v n → (l : Located) × (x ≡ got l n) × (shapeIn (shape t) s l ≡ v) × Inside at n (shapeParts (shape t) l)
     go (got l m) (lies l′ m′ h i) e = let f : m ≡ n = cc in (l, ap (got l) f, cc, rw f at i)
     go (refused u) nowhere e = zero-one (cc)
 
 pub located-from : (t : ℕ) (s : List ℕ) (at : ℕ) (l : Located) (n : ℕ) → got l n ≡ valueAt t s at → at ≤ n
 located-from t s at l n e = go (valueAt t s at) ((values t) .inside s at) e
   where
-    go : (x : Answer Located) → Lies (shape-parts (shape t)) at x → got l n ≡ x → at ≤ n
+    go : (x : Answer Located) → Lies (shapeParts (shape t)) at x → got l n ≡ x → at ≤ n
     go (got k m) (lies k′ m′ h i) e = let f : n ≡ m = cc in omega arith
     go (refused u) nowhere e = zero-one (cc)
 

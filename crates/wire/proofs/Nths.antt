@@ -20,14 +20,13 @@ use Rattle.wire.specs.declared.property.Form as F
 use Rattle.wire.specs.declared.property.Form.the-variants as form
 use Rattle.wire.specs.Layout.{Val, nil, shape, Value, list}
 use Rattle.wire.specs.Codecs.{value}
-use Rattle.wire.specs.Places.{Located}
+use Rattle.wire.specs.Places.{Located, shapeParts}
 use Rattle.wire.specs.Property.{between, valuesAt, propertyAt, valuesIn, formIn, propertyIn}
 use Rattle.wire.specs.List.{valueSlot, nthValue, nthIn, nthAt, placeFrom, placeOf, Stepped, next, end, stepAt}
 use Rattle.wire.specs.Worded.{WordedForm, a-list, Nth, Nths, Yields, ended, yields, valuesOf}
 use Rattle.wire.proofs.Described.{located-is}
 use Rattle.wire.proofs.Formats.{value-format}
 use Rattle.wire.proofs.Held.{worded, read-back, held}
-use Rattle.wire.proofs.Located.{shape-parts}
 use Rattle.wire.proofs.Stepping.{past}
 
 -- where n values are read, the k before one of them are, and then that one; it ends where they end or earlier
@@ -49,7 +48,7 @@ split-at t s h (suc k) (suc n) lt at w vs m r =
 
 -- the k-th of n values
 pub nth-read : (t : ℕ) (s : List ℕ) → Bytes s → (k n at : ℕ) → k < n → at ≤ length s → (vs : List Val) (m : ℕ) → (repeated n (value t)) .read s at ≡ got vs m
-    → (l : Located) × (p : Slot) × (e : ℕ) × (nthValue t k s at ≡ got (l, p) e) × Nth t (shape-parts (shape t)) s (between at m) vs k l p e
+    → (l : Located) × (p : Slot) × (e : ℕ) × (nthValue t k s at ≡ got (l, p) e) × Nth t (shapeParts (shape t)) s (between at m) vs k l p e
 unfolding nthValue valuesAt valueSlot after
 nth-read t s h k n at lt w vs m r =
     let i = split-at t s h k n lt at w vs m r in
@@ -106,11 +105,11 @@ module _ (s : List ℕ) (h : Bytes s) (x : PropInfo) (n : ℕ) (read : propertyA
           let size = repeat-length (Value (x .«data_type»)) loose count _ _ (w .reads) in
           (rw same (read-back (repeat-format count (value-format (x .«data_type»))) w), omega (arith, w .within), rw same (sym size))
 
-  pub nths : (k : ℕ) → Nths (x .«data_type») (shape-parts (shape (x .«data_type»))) s (x .form) its k (nthAt k s)
+  pub nths : (k : ℕ) → Nths (x .«data_type») (shapeParts (shape (x .«data_type»))) s (x .form) its k (nthAt k s)
   unfolding nthAt nthIn after
   nths k = go (x .form) refl
     where
-      go : (f : F.Form) → x .form ≡ f → Nths (x .«data_type») (shape-parts (shape (x .«data_type»))) s (x .form) its k (nthAt k s)
+      go : (f : F.Form) → x .form ≡ f → Nths (x .«data_type») (shapeParts (shape (x .«data_type»))) s (x .form) its k (nthAt k s)
       go (form.List all count) e =
           let r = listed all count e in
           let same : between (all .start) (all .start + all .len) ≡ all = ap (λ m. record { start = all .start; len = m }) (omega arith) in

@@ -13,15 +13,15 @@ use Rattle.layout.proofs.Make.{number-format, as-format, cells-format}
 use Rattle.wire.specs.Layout.{width, paired, text-count, Text, Shape, one, many, string, undef, shape, Value, Row, device, object, storage, form-byte, list, no-form, reading, Property}
 use Rattle.wire.specs.Codecs.{all-units, units, text, array, shaped, value, row, three, form-write, formed, form, fields, property}
 use Rattle.wire.specs.Faults.{UnitsFault, TextFault, ShapedFault, ValueFault, RowFault, FormedFault, FormFault, PropertyFault}
-use Rattle.wire.specs.Places.{textAt, valueAt}
+use Rattle.wire.specs.Places.{textAt, valueAt, rowAt}
 use Rattle.wire.specs.Says.{saysPart, saysValue}
 use Rattle.wire.specs.declared.ReadPart.{ReadPart}
 use Rattle.wire.specs.declared.value.ReadValue.{ReadValue}
-use Rattle.wire.specs.Device.{deviceAt, saysDevice}
+use Rattle.wire.specs.Device.{saysDevice}
 use Rattle.wire.specs.declared.device.ReadDevice.{ReadDevice}
-use Rattle.wire.specs.Object.{objectAt, saysObject}
+use Rattle.wire.specs.Object.{saysObject}
 use Rattle.wire.specs.declared.object.ReadObject.{ReadObject}
-use Rattle.wire.specs.Storage.{storageAt, saysStorage}
+use Rattle.wire.specs.Storage.{saysStorage}
 use Rattle.wire.specs.declared.storage.ReadStorage.{ReadStorage}
 use Rattle.wire.specs.Property.{propertyAt, saysProperty}
 use Rattle.wire.specs.declared.property.ReadProperty.{ReadProperty}
@@ -117,14 +117,14 @@ module _ (s : List ℕ) (h : Bytes s) (at : ℕ) where
   pub value-refused : (t : ℕ) (r : ReadValue) → saysValue r ≡ valueAt t s at → Refuses (Value t) (ValueFault t) (drop at s) (saysValue r)
   value-refused t r promised = refuses-exactly (value-format t) (value-faults t) (Located.values t) s h at (saysValue r) promised
 
-  pub device-refused : (r : ReadDevice) → saysDevice r ≡ deviceAt s at → Refuses (Row device) (RowFault device) (drop at s) (saysDevice r)
-  device-refused r promised = refuses-exactly (row-format device) (row-faults device) Located.devices s h at (saysDevice r) promised
+  pub device-refused : (r : ReadDevice) → saysDevice r ≡ rowAt device s at → Refuses (Row device) (RowFault device) (drop at s) (saysDevice r)
+  device-refused r promised = refuses-exactly (row-format device) (row-faults device) (Located.rows device) s h at (saysDevice r) promised
 
-  pub object-refused : (r : ReadObject) → saysObject r ≡ objectAt s at → Refuses (Row object) (RowFault object) (drop at s) (saysObject r)
-  object-refused r promised = refuses-exactly (row-format object) (row-faults object) Located.objects s h at (saysObject r) promised
+  pub object-refused : (r : ReadObject) → saysObject r ≡ rowAt object s at → Refuses (Row object) (RowFault object) (drop at s) (saysObject r)
+  object-refused r promised = refuses-exactly (row-format object) (row-faults object) (Located.rows object) s h at (saysObject r) promised
 
-  pub storage-refused : (r : ReadStorage) → saysStorage r ≡ storageAt s at → Refuses (Row storage) (RowFault storage) (drop at s) (saysStorage r)
-  storage-refused r promised = refuses-exactly (row-format storage) (row-faults storage) Located.storages s h at (saysStorage r) promised
+  pub storage-refused : (r : ReadStorage) → saysStorage r ≡ rowAt storage s at → Refuses (Row storage) (RowFault storage) (drop at s) (saysStorage r)
+  storage-refused r promised = refuses-exactly (row-format storage) (row-faults storage) (Located.rows storage) s h at (saysStorage r) promised
 
   pub property-refused : (r : ReadProperty) → saysProperty r ≡ propertyAt s at → Refuses Property PropertyFault (drop at s) (saysProperty r)
   property-refused r promised = refuses-exactly property-format property-faults Described.properties s h at (saysProperty r) promised

@@ -1,13 +1,15 @@
 -- `wire::device::device_info`: one link a field. Assumes nothing.
+use mathlib.Core.Path.{refl}
 use denote.Ref.{now}
-use Rattle.wire.specs.Device.{deviceAt}
-use Rattle.wire.proofs.Runs.{begin, link, whole, broken}
+use Rattle.wire.specs.Layout.{device}
+use Rattle.wire.specs.Places.{items, units, whole, shapeAt}
+use Rattle.wire.proofs.Runs.{begin-row, link-row, end-row, broken}
 use borrow.Author.Needs.{needs}
 use Rattle.wire.proofs.device.device_info.Statement.{statement}
 use Rattle.wire.proofs.device.device_info.Tie as tie
 
 returns : tie.Need-returns
-unfolding deviceAt
+unfolding shapeAt
 returns c =
     let at-text5 = c .before .before .before .before .before .before .before .before .before .before .before .before .before .before .before .before .before .before in
     let at-text4 = at-text5 .before in
@@ -24,25 +26,25 @@ returns c =
     let at-number2 = at-number3 .before in
     let at-number = at-number2 .before in
     let g = at-number .before in
-    begin (g .going .result) (g .before .before .args .c) (deviceAt (now (g .before .before .args .s))) (g .going .ensures)
-    (link _ _ _ _ _ (at-number .number .ensures .says)
-    (link _ _ _ _ _ (at-number2 .number2 .ensures .says)
-    (link _ _ _ _ _ (at-number3 .number3 .ensures .says)
-    (link _ _ _ _ _ (at-text .text .ensures)
-    (link _ _ _ _ _ (at-number4 .number4 .ensures .says)
-    (link _ _ _ _ _ (at-items .items .ensures)
-    (link _ _ _ _ _ (at-items2 .items2 .ensures)
-    (link _ _ _ _ _ (at-items3 .items3 .ensures)
-    (link _ _ _ _ _ (at-items4 .items4 .ensures)
-    (link _ _ _ _ _ (at-items5 .items5 .ensures)
-    (link _ _ _ _ _ (at-text2 .text2 .ensures)
-    (link _ _ _ _ _ (at-text3 .text3 .ensures)
-    (link _ _ _ _ _ (at-text4 .text4 .ensures)
-    (link _ _ _ _ _ (at-text5 .text5 .ensures)
-    (whole _ _ (c .before .before .before .before .if1 .taken))))))))))))))))
+    begin-row (g .going .result) (g .before .before .args .c) device (now (g .before .before .args .s)) (g .going .ensures)
+    (link-row _ _ _ whole _ _ _ _ _ (λ p. refl) (at-number .number .ensures .says)
+    (link-row _ _ _ whole _ _ _ _ _ (λ p. refl) (at-number2 .number2 .ensures .says)
+    (link-row _ _ _ whole _ _ _ _ _ (λ p. refl) (at-number3 .number3 .ensures .says)
+    (link-row _ _ _ units _ _ _ _ _ (λ p. refl) (at-text .text .ensures)
+    (link-row _ _ _ whole _ _ _ _ _ (λ p. refl) (at-number4 .number4 .ensures .says)
+    (link-row _ _ _ items _ _ _ _ _ (λ p. refl) (at-items .items .ensures)
+    (link-row _ _ _ items _ _ _ _ _ (λ p. refl) (at-items2 .items2 .ensures)
+    (link-row _ _ _ items _ _ _ _ _ (λ p. refl) (at-items3 .items3 .ensures)
+    (link-row _ _ _ items _ _ _ _ _ (λ p. refl) (at-items4 .items4 .ensures)
+    (link-row _ _ _ items _ _ _ _ _ (λ p. refl) (at-items5 .items5 .ensures)
+    (link-row _ _ _ units _ _ _ _ _ (λ p. refl) (at-text2 .text2 .ensures)
+    (link-row _ _ _ units _ _ _ _ _ (λ p. refl) (at-text3 .text3 .ensures)
+    (link-row _ _ _ units _ _ _ _ _ (λ p. refl) (at-text4 .text4 .ensures)
+    (link-row _ _ _ units _ _ _ _ _ (λ p. refl) (at-text5 .text5 .ensures)
+    (end-row _ _ _ (c .before .before .before .before .if1 .taken))))))))))))))))
 
 returns-2 : tie.Need-returns-2
-unfolding deviceAt
+unfolding shapeAt
 returns-2 c =
     let at-text5 = c .before .before .before .before .before .before .before .before .before .before .before .before .before .before in
     let at-text4 = at-text5 .before in
@@ -59,21 +61,21 @@ returns-2 c =
     let at-number2 = at-number3 .before in
     let at-number = at-number2 .before in
     let g = at-number .before in
-    begin (g .going .result) (g .before .before .args .c) (deviceAt (now (g .before .before .args .s))) (g .going .ensures)
-    (link _ _ _ _ _ (at-number .number .ensures .says)
-    (link _ _ _ _ _ (at-number2 .number2 .ensures .says)
-    (link _ _ _ _ _ (at-number3 .number3 .ensures .says)
-    (link _ _ _ _ _ (at-text .text .ensures)
-    (link _ _ _ _ _ (at-number4 .number4 .ensures .says)
-    (link _ _ _ _ _ (at-items .items .ensures)
-    (link _ _ _ _ _ (at-items2 .items2 .ensures)
-    (link _ _ _ _ _ (at-items3 .items3 .ensures)
-    (link _ _ _ _ _ (at-items4 .items4 .ensures)
-    (link _ _ _ _ _ (at-items5 .items5 .ensures)
-    (link _ _ _ _ _ (at-text2 .text2 .ensures)
-    (link _ _ _ _ _ (at-text3 .text3 .ensures)
-    (link _ _ _ _ _ (at-text4 .text4 .ensures)
-    (link _ _ _ _ _ (at-text5 .text5 .ensures)
+    begin-row (g .going .result) (g .before .before .args .c) device (now (g .before .before .args .s)) (g .going .ensures)
+    (link-row _ _ _ whole _ _ _ _ _ (λ p. refl) (at-number .number .ensures .says)
+    (link-row _ _ _ whole _ _ _ _ _ (λ p. refl) (at-number2 .number2 .ensures .says)
+    (link-row _ _ _ whole _ _ _ _ _ (λ p. refl) (at-number3 .number3 .ensures .says)
+    (link-row _ _ _ units _ _ _ _ _ (λ p. refl) (at-text .text .ensures)
+    (link-row _ _ _ whole _ _ _ _ _ (λ p. refl) (at-number4 .number4 .ensures .says)
+    (link-row _ _ _ items _ _ _ _ _ (λ p. refl) (at-items .items .ensures)
+    (link-row _ _ _ items _ _ _ _ _ (λ p. refl) (at-items2 .items2 .ensures)
+    (link-row _ _ _ items _ _ _ _ _ (λ p. refl) (at-items3 .items3 .ensures)
+    (link-row _ _ _ items _ _ _ _ _ (λ p. refl) (at-items4 .items4 .ensures)
+    (link-row _ _ _ items _ _ _ _ _ (λ p. refl) (at-items5 .items5 .ensures)
+    (link-row _ _ _ units _ _ _ _ _ (λ p. refl) (at-text2 .text2 .ensures)
+    (link-row _ _ _ units _ _ _ _ _ (λ p. refl) (at-text3 .text3 .ensures)
+    (link-row _ _ _ units _ _ _ _ _ (λ p. refl) (at-text4 .text4 .ensures)
+    (link-row _ _ _ units _ _ _ _ _ (λ p. refl) (at-text5 .text5 .ensures)
     (broken _ _ (c .if1 .left))))))))))))))))
 
 pub device-info-spec : {M : Type 1} → statement M
