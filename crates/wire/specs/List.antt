@@ -1,9 +1,10 @@
 -- A description's list: its n-th value, where it stands, and what a step finds.
 -- Assumes nothing.
+use mathlib.Core.Path.{_≡_}
 use mathlib.Core.List.{List}
 use Prim.Native.Nat.{ℕ, _-_}
 use lib.Dec.{eqb, ltb}
-use denote.Ref.{RefT}
+use denote.Ref.{RefT, now}
 use Rattle.layout.specs.Answer.{Answer, got, refused, Reader, pick, after, bare}
 use Rattle.layout.specs.Refusals.{PLACE}
 use Rattle.wire.specs.Places.{Located, valueAt}
@@ -79,3 +80,10 @@ stepAt s t at left refusal = pick (eqb refusal 0) (pick (eqb left 0) end (steppe
 abbrev pub saysStep : Step → Stepped
 saysStep (step.Next v at left) = next (located v) at left
 saysStep step.End = end
+
+-- what a call of `next` answers of the list, and what a call of `moved` makes of it
+abbrev pub Nexts : Values → Step → Type 0
+Nexts l r = saysStep r ≡ stepAt (now (l .src)) (l .ty) (l .at) (l .left) (l .refusal)
+
+abbrev pub Moves : Values → ℕ → ℕ → Values → Type 0
+Moves l at left m = (m .src ≡ l .src) × (m .ty ≡ l .ty) × (m .at ≡ at) × (m .left ≡ left) × (m .refusal ≡ l .refusal)

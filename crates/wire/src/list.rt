@@ -1,6 +1,6 @@
 // A description's list: its n-th value; and the list handed out, a step at a time.
 ghost use mathlib.Core.Path.{_≡_};
-ghost use Rattle.wire.specs.List.{nthIn, nthValue, valueSlot, nthAt, saysNth, placeIn, placeOf, stepAt, saysStep, listAt};
+ghost use Rattle.wire.specs.List.{nthIn, nthValue, valueSlot, nthAt, saysNth, placeIn, placeOf, stepAt, saysStep, listAt, Nexts, Moves};
 use crate::Cursor;
 use crate::property;
 use crate::property::Form;
@@ -170,13 +170,13 @@ pub fn list_of<'a>(src: &'a [u8]) -> Values<'a>
 }
 
 pub fn next<'a>(l: Values<'a>) -> Step
-    ensures { λ s. ⌜ saysStep s ≡ stepAt (now (l .entry .src)) (l .entry .ty) (l .entry .at) (l .entry .left) (l .entry .refusal) ⌝ }
+    ensures { λ r. ⌜ Nexts (l .entry) r ⌝ }
 {
     step_at(l.src, l.ty, l.at, l.left, l.refusal)
 }
 
 pub fn moved<'a>(l: Values<'a>, at: usize, left: u16) -> Values<'a>
-    ensures { λ q. ⌜ (q .src ≡ l .entry .src) × (q .ty ≡ l .entry .ty) × (q .at ≡ at) × (q .left ≡ left) × (q .refusal ≡ l .entry .refusal) ⌝ }
+    ensures { λ m. ⌜ Moves (l .entry) at left m ⌝ }
 {
     Values {
         src: l.src,
