@@ -1,7 +1,7 @@
--- `abi::transaction::command_of`: the parameters one by one. Assumes nothing.
+-- `session::call::command_of`: the parameters one by one. Assumes nothing.
 use borrow.Author.Needs.{needs}
-use Rattle.abi.proofs.transaction.command_of.Statement.{statement}
-use Rattle.abi.proofs.transaction.command_of.Tie as tie
+use Rattle.session.proofs.call.command_of.Statement.{statement}
+use Rattle.session.proofs.call.command_of.Tie as tie
 
 returns : tie.Need-returns
 returns c = rw (c .before .before .before .before .param .ensures, c .before .before .before .param2 .ensures, c .before .before .param3 .ensures, c .before .param4 .ensures, c .param5 .ensures)
