@@ -38,23 +38,6 @@ pub row-values : (t n : ℕ) (s : List ℕ) (at : ℕ) → rowWord (types (t ∷
 unfolding rowWord
 row-values t n s at = rw (types-one t n) (ap (λ (X : Codec (List Val)). means (X .write) (X .read s at)) (row-repeat n t))
 
-module _ (c m : ℕ) (s : List ℕ) (at : ℕ) where
-  pub values-got : (t n : ℕ) → got t n ≡ means length (rowWord (types (c ∷ []) m) s at) → got (between at n) n ≡ valuesAt c m s at
-  unfolding valuesAt means after
-  values-got t n e = go ((repeated m (value c)) .read s at) (e ∙ ap (means length) (row-values c m s at))
-    where
-      go : (x : Answer (List Val)) → got t n ≡ means length (means ((repeated m (value c)) .write) x) → got (between at n) n ≡ after x (λ _ k. got (between at k) k)
-      go (got v k) e = let f : n ≡ k = cc in rw f
-      go (refused u) e = zero-one (cc)
-
-  pub values-refused : (t : Told) → refused t ≡ means length (rowWord (types (c ∷ []) m) s at) → refused t ≡ valuesAt c m s at
-  unfolding valuesAt means after
-  values-refused t e = go ((repeated m (value c)) .read s at) (e ∙ ap (means length) (row-values c m s at))
-    where
-      go : (x : Answer (List Val)) → refused t ≡ means length (means ((repeated m (value c)) .write) x) → refused t ≡ after x (λ _ k. got (between at k) k)
-      go (got v k) e = zero-one (cc)
-      go (refused u) e = cc
-
 -- ── the meaning of places ──
 
 -- one part more of a reading whose parts before it are in hd
@@ -178,7 +161,7 @@ located-from t s at l n e = go (valueAt t s at) ((values t) .inside s at) e
     go (got k m) (lies k′ m′ h i) e = let f : n ≡ m = cc in omega arith
     go (refused u) nowhere e = zero-one (cc)
 
-values-from : (t m : ℕ) (s : List ℕ) (at : ℕ) (vs : List Val) (n : ℕ) → (repeated m (value t)) .read s at ≡ got vs n → at ≤ n
+pub values-from : (t m : ℕ) (s : List ℕ) (at : ℕ) (vs : List Val) (n : ℕ) → (repeated m (value t)) .read s at ≡ got vs n → at ≤ n
 unfolding means after
 values-from t zero s at vs n e = let f : at ≡ n = cc in omega arith
 values-from t (suc m) s at vs n e = first ((value t) .read s at) (λ v q. value-from t s at v q) (λ q ws. values-from t m s q ws n) e
@@ -196,14 +179,6 @@ values-from t (suc m) s at vs n e = first ((value t) .read s at) (λ v q. value-
 inside-from : (a b n : ℕ) (ps : List (ℕ × ℕ)) → b ≤ a → Inside a n ps → Inside b n ps
 inside-from a b n [] h i = tt
 inside-from a b n (p ∷ ps) h i = (omega arith, i .1, i .2, inside-from a b n ps h (i .3))
-
-pub values-ahead : (c m : ℕ) (s : List ℕ) (at t n : ℕ) → got t n ≡ means length (rowWord (types (c ∷ []) m) s at) → at ≤ n
-unfolding means
-values-ahead c m s at t n e = go ((repeated m (value c)) .read s at) refl (e ∙ ap (means length) (row-values c m s at))
-  where
-    go : (x : Answer (List Val)) → (repeated m (value c)) .read s at ≡ x → got t n ≡ means length (means ((repeated m (value c)) .write) x) → at ≤ n
-    go (got vs k) f e = let g : n ≡ k = cc in omega (arith, values-from c m s at vs k f)
-    go (refused u) f e = zero-one (cc)
 
 abbrev pub extent : Slot → ℕ × ℕ
 extent p = (p .start, p .start + p .len)

@@ -4,7 +4,7 @@ use mathlib.Core.List.{List, [], _∷_}
 use Prim.Native.Nat.{ℕ, _-_}
 use lib.Dec.{eqb}
 use lib.ListN.{take, drop}
-use Rattle.layout.specs.Answer.{Answer, got, refused, Reader, pick, after}
+use Rattle.layout.specs.Answer.{Answer, got, refused, Reader, pick, after, means}
 use Rattle.layout.specs.Codec.{repeated}
 use Rattle.wire.specs.Layout.{Shape, one, many, string, undef, shape, Val, str, nil, Form, range, list, no-form, Reading}
 use Rattle.wire.specs.Codecs.{value}
@@ -19,6 +19,10 @@ use Rattle.wire.specs.declared.property.ReadProperty.the-variants as rea
 -- the bytes from a place up to another
 abbrev pub between : ℕ → ℕ → Slot
 between at n = record { start = at; len = n - at }
+
+-- n values of a type, passed by
+unfoldable pub passedAt : ℕ → ℕ → Reader (Unit {0})
+passedAt t n s at = means (λ _. tt) ((repeated n (value t)) .read s at)
 
 -- n values of a type, as the bytes that they take; and one
 unfoldable pub valuesAt : ℕ → ℕ → Reader Slot

@@ -2,14 +2,14 @@
 ghost use mathlib.Core.Path.{_≡_};
 ghost use Rattle.wire.specs.List.{nthIn, nthValue, valueSlot, nthAt, saysNth, placeIn, placeOf, stepAt, saysStep, listAt, Nexts, Moves};
 use crate::Cursor;
+use crate::Span;
+use crate::past;
 use crate::property;
 use crate::property::Form;
 use crate::property::ReadProperty;
 use crate::property::Slot;
-use crate::row;
 use crate::value::ReadValue;
 use crate::value::Value;
-use crate::write::Measured;
 use layout::Refusal;
 
 // A value, its bytes, and the place after them.
@@ -41,9 +41,9 @@ fn value_slot(s: &[u8], code: u16, at: usize) -> ReadNth
 fn nth_value(s: &[u8], code: u16, start: usize, n: usize) -> ReadNth
     ensures { λ r. ⌜ saysNth r ≡ nthValue code n (now (s .entry)) start ⌝ }
 {
-    match row::measure_values(code, n, s, start) {
-        Measured::Whole { tidy: _, next } => value_slot(s, code, next),
-        Measured::Refused(f) => ReadNth::Refused(f),
+    match past::past_values(code, n, s, start) {
+        Span::Till(next) => value_slot(s, code, next.at),
+        Span::Refused(f) => ReadNth::Refused(f),
     }
 }
 

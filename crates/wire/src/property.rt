@@ -4,10 +4,10 @@ ghost use Rattle.layout.specs.Answer.{after};
 ghost use Rattle.wire.specs.Says.{ran, here};
 ghost use Rattle.wire.specs.Property.{valuesAt, rangeAt, listAt, formAt, propertyAt, saysProperty};
 use crate::Cursor;
-use crate::row;
+use crate::Span;
+use crate::past;
 use crate::run;
 use crate::run::Run;
-use crate::write::Measured;
 use layout::Refusal;
 
 // The bytes of a value, or of several.
@@ -56,15 +56,18 @@ impl Run {
         if self.ok {
             let c = self.next;
             let at = c.at;
-            match row::measure_values(code, n, s, at) {
-                Measured::Whole { tidy: _, next } => RunSlot {
-                    v: Slot {
-                        start: at,
-                        len: next - at,
-                    },
-                    run: run::going(Cursor { at: next }),
-                },
-                Measured::Refused(f) => RunSlot {
+            match past::past_values(code, n, s, at) {
+                Span::Till(next) => {
+                    let end = next.at;
+                    RunSlot {
+                        v: Slot {
+                            start: at,
+                            len: end - at,
+                        },
+                        run: run::going(next),
+                    }
+                }
+                Span::Refused(f) => RunSlot {
                     v: Slot { start: 0, len: 0 },
                     run: run::stopped(f),
                 },
