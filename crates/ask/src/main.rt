@@ -3,6 +3,8 @@
 mod fields;
 mod input;
 mod integer;
+mod list;
+mod listed;
 mod long;
 mod question;
 mod reads;

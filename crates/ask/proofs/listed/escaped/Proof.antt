@@ -1,10 +1,10 @@
--- `ask::long::escaped` ends: what is left falls. Assumes nothing.
+-- `ask::listed::escaped` ends: what is left falls. Assumes nothing.
 use mathlib.Core.Path.{_≡_}
 use Prim.Native.Nat.{_≤_, _-_}
 use lib.ListN.{length}
 use borrow.Author.Needs.{needs}
-use Rattle.ask.proofs.long.escaped.Statement.{statement}
-use Rattle.ask.proofs.long.escaped.Tie as tie
+use Rattle.ask.proofs.listed.escaped.Statement.{statement}
+use Rattle.ask.proofs.listed.escaped.Tie as tie
 
 abbrev Inv-loop : tie.InvT-loop
 Inv-loop text₀ at s o₀ i₀ text o i = (i ≤ length s) × (length text ≡ length text₀)

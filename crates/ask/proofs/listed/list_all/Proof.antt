@@ -1,10 +1,10 @@
--- `ask::long::list_all` ends: each window uses some of what is left. Assumes nothing.
+-- `ask::listed::list_all` ends: each window uses some of what is left. Assumes nothing.
 use mathlib.Core.Path.{_≡_}
 use Prim.Native.Nat.{_-_}
 use lib.ListN.{length}
 use borrow.Author.Needs.{needs}
-use Rattle.ask.proofs.long.list_all.Statement.{statement}
-use Rattle.ask.proofs.long.list_all.Tie as tie
+use Rattle.ask.proofs.listed.list_all.Statement.{statement}
+use Rattle.ask.proofs.listed.list_all.Tie as tie
 
 abbrev Inv-loop : tie.InvT-loop
 Inv-loop src out₀ text₀ at place₀ records₀ from₀ o₀ out text place records from o = (length out ≡ length out₀) × (length text ≡ length text₀)

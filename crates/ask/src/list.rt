@@ -1,0 +1,71 @@
+// A description's list, by the struct that the library hands out: it is stepped through to its end.
+ghost use mathlib.Core.Path.{_≡_};
+ghost use Rattle.wire.specs.List.{placeOf, stepAt, saysStep};
+use crate::show;
+use wire::Step;
+use wire::Values;
+use words::told;
+
+// The step from the list's beginning.
+fn first(src: &[u8]) -> Step
+    ensures { λ r. ⌜ saysStep r ≡ stepAt (now (src .entry)) (placeOf (now (src .entry)) .ty) (placeOf (now (src .entry)) .at) (placeOf (now (src .entry)) .left) (placeOf (now (src .entry)) .refusal) ⌝ }
+{
+    wire::next(wire::list_of(src))
+}
+
+// The step from where the one before it ended.
+fn later(src: &[u8], ty: u16, at: usize, left: u16, refusal: u8) -> Step
+    ensures { λ r. ⌜ saysStep r ≡ stepAt (now (src .entry)) ty at left refusal ⌝ }
+{
+    wire::next(wire::moved(
+        Values {
+            src,
+            ty,
+            at: 0,
+            left: 0,
+            refusal,
+        },
+        at,
+        left,
+    ))
+}
+
+// How many steps there are before the end: no list has more than 65,535 values.
+fn steps(src: &[u8], ty: u16, refusal: u8) -> u64 {
+    let mut step = first(src);
+    let mut n: u64 = 0;
+    while n < 65536 {
+        match step {
+            Step::Next(_, at, left) => {
+                step = later(src, ty, at, left, refusal);
+            }
+            Step::End => return n,
+        }
+        n += 1;
+    }
+    n
+}
+
+fn print_steps(src: &[u8], ty: u16, refusal: u8, text: &mut [u8], to: usize) -> usize {
+    let mut step = first(src);
+    let mut o = to;
+    let mut n: u64 = 0;
+    while n < 65536 {
+        match step {
+            Step::Next(v, at, left) => {
+                o = show::put_value(text, o, src, ty, v);
+                step = later(src, ty, at, left, refusal);
+            }
+            Step::End => return o,
+        }
+        n += 1;
+    }
+    o
+}
+
+pub fn answer(src: &[u8], text: &mut [u8], at: usize) -> usize {
+    let p = wire::place_of(src);
+    let n = steps(src, p.ty, p.refusal);
+    let o = show::tell(text, at, src, told::ok().number(p.refusal as u64).number(n));
+    print_steps(src, p.ty, p.refusal, text, o)
+}
