@@ -9,9 +9,9 @@ pub struct Held {
     pub is_long: bool,
 }
 
-// How much came, or the place after it; and whether the reading went well.
+// The place after all that came, and whether the reading went well.
 pub struct Came {
-    pub n: usize,
+    pub end: usize,
     pub ok: bool,
 }
 
@@ -20,28 +20,21 @@ pub fn room() -> [u8; 1265536] {
     [0u8; 1265536]
 }
 
-// The one function that reads.
-fn read(free: &mut [u8]) -> Came {
-    let got = libc::read(0, free);
-    Came {
-        n: io::count(got, free),
-        ok: 0 <= got,
-    }
-}
-
-// Reads once behind what is there, and answers the place after it all; the same place where nothing came.
+// The one function that reads: once, behind what is there. The end stays where it is where nothing came.
 pub fn more(lines: &mut [u8], end: usize) -> Came {
     let size = lines.len();
-    let came = read(slice::part_mut(lines, end, size));
+    let free = slice::part_mut(lines, end, size);
+    let got = libc::read(0, free);
+    let n = io::count(got, free);
     if end <= size {
-        if came.n <= size - end {
+        if n <= size - end {
             return Came {
-                n: end + came.n,
-                ok: came.ok,
+                end: end + n,
+                ok: 0 <= got,
             };
         }
     }
-    Came { n: end, ok: false }
+    Came { end, ok: false }
 }
 
 fn move_front(lines: &mut [u8], start: usize, end: usize) -> usize {

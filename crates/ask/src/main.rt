@@ -24,6 +24,12 @@ struct Done {
     at: usize,
 }
 
+// What is held after a block, and whether its answers are written.
+struct Turn {
+    held: Held,
+    ok: bool,
+}
+
 fn out_room() -> [u8; 1048576] {
     [0u8; 1048576]
 }
@@ -130,12 +136,6 @@ fn answer_last(lines: &mut [u8], held: Held, text: &mut [u8]) {
     }
 }
 
-// What is held after a block, and whether its answers are written.
-struct Turn {
-    held: Held,
-    ok: bool,
-}
-
 fn answer_block(lines: &mut [u8], held: Held, end: usize, text: &mut [u8]) -> Turn {
     let done = answer_lines(lines, held, end, text);
     let ok = print::flush(text, done.at);
@@ -158,11 +158,11 @@ fn run(lines: &mut [u8], text: &mut [u8]) {
         if !came.ok {
             return;
         }
-        if came.n == held.end {
+        if came.end == held.end {
             answer_last(lines, held, text);
             return;
         }
-        let turn = answer_block(lines, held, came.n, text);
+        let turn = answer_block(lines, held, came.end, text);
         if !turn.ok {
             return;
         }

@@ -1,9 +1,11 @@
 // A question's words, read by its signature: a letter a word.
-// 1 2 4 8: a number of so many bytes; r: a room; b: bytes; h: a list of 16-bit numbers; n: of 32-bit ones; w: as it stands.
+// 1 2 4 8: a number of so many bytes; r: a room; b: bytes; h: a list of 16-bit numbers, of which there is one at most; n: of 32-bit
+// ones, as many as are lent room; w: as it stands.
 use crate::list;
 use crate::number;
 use crate::slice;
 
+// The numbers of a list at most.
 pub const MOST_NUMBERS: usize = 4096;
 
 // Of each word, in order, a number and a count: a number's value; where bytes, a list or a word start, and how many they are. Of the
@@ -11,12 +13,14 @@ pub const MOST_NUMBERS: usize = 4096;
 pub struct Args {
     pub numbers: [usize; 8],
     pub counts: [usize; 8],
-    pub n: usize,
     pub start: usize,
     pub count: usize,
     pub room: usize,
-    pub at: usize,
     pub ok: bool,
+    // how many words are read, the place in the line behind them, and in the lent numbers behind their lists
+    n: usize,
+    at: usize,
+    used: usize,
 }
 
 struct Got {
@@ -44,21 +48,13 @@ fn a_number(letter: u8, w: &[u8]) -> Got {
     }
 }
 
-// A second list of 32-bit numbers lies behind the first.
-fn from(i: usize) -> usize {
-    if i < 1 {
-        return 0;
-    }
-    MOST_NUMBERS
-}
-
 fn one(
     letter: u8,
-    i: usize,
     w: &mut [u8],
     start: usize,
     halves: &mut [u16],
     numbers: &mut [u32],
+    used: usize,
 ) -> Got {
     match letter {
         b'b' => {
@@ -78,9 +74,9 @@ fn one(
             }
         }
         b'n' => {
-            let n = list::list32(w, slice::part32_mut(numbers, from(i), MOST_NUMBERS));
+            let n = list::list32(w, slice::part32_mut(numbers, used, MOST_NUMBERS));
             Got {
-                number: from(i),
+                number: used,
                 count: n.n,
                 ok: n.ok,
             }
@@ -112,6 +108,9 @@ impl Args {
         if letter == b'r' {
             a.room = g.number;
         }
+        if letter == b'n' {
+            a.used = std::num::wrapping_add_usize(a.used, MOST_NUMBERS);
+        }
         a.at = at;
         if !g.ok {
             a.ok = false;
@@ -135,7 +134,7 @@ fn next(a: Args, letter: u8, line: &mut [u8], halves: &mut [u16], numbers: &mut 
     }
     let end = slice::find(line, at + 1, b' ');
     let w = slice::part_mut(line, at + 1, end);
-    let g = one(letter, a.n, w, at + 1, halves, numbers);
+    let g = one(letter, w, at + 1, halves, numbers, a.used);
     a.and(letter, g, end)
 }
 
@@ -150,12 +149,13 @@ pub fn read(
     let mut a = Args {
         numbers: [0usize; 8],
         counts: [0usize; 8],
-        n: 0,
         start: 0,
         count: 0,
         room: 0,
-        at,
         ok: true,
+        n: 0,
+        at,
+        used: 0,
     };
     let mut i: usize = 0;
     while i < signature.len() {
