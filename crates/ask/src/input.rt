@@ -1,5 +1,5 @@
 // Standard input, block by block: the lines lie in one lent buffer, and what is left of the last is moved to its front.
-use crate::slice;
+use words::slice;
 
 const MOST_LINE: usize = 1200000;
 
@@ -9,23 +9,32 @@ pub struct Held {
     pub is_long: bool,
 }
 
+// The place after all that came, and whether the reading went well.
+pub struct Came {
+    pub end: usize,
+    pub ok: bool,
+}
+
 // The buffer for the longest line and a block behind it.
 pub fn room() -> [u8; 1265536] {
     [0u8; 1265536]
 }
 
-// Reads once behind what is there, and answers the place after it all; the same place where nothing came.
-pub fn more(lines: &mut [u8], end: usize) -> usize {
+// The one function that reads: once, behind what is there. The end stays where it is where nothing came.
+pub fn more(lines: &mut [u8], end: usize) -> Came {
     let size = lines.len();
     let free = slice::part_mut(lines, end, size);
     let got = libc::read(0, free);
     let n = io::count(got, free);
     if end <= size {
         if n <= size - end {
-            return end + n;
+            return Came {
+                end: end + n,
+                ok: 0 <= got,
+            };
         }
     }
-    end
+    Came { end, ok: false }
 }
 
 fn move_front(lines: &mut [u8], start: usize, end: usize) -> usize {
