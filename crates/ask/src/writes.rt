@@ -36,18 +36,7 @@ fn number_at(list: &[u32], i: usize) -> u32 {
 
 // As many parameters as are given, of which only five have a place.
 fn command_of(a: Args, numbers: &[u32]) -> Command {
-    let list = slice::part32(numbers, a.numbers[2], a.counts[2]);
-    Command {
-        code: low16(a.numbers[1]),
-        params: [
-            number_at(list, 0),
-            number_at(list, 1),
-            number_at(list, 2),
-            number_at(list, 3),
-            number_at(list, 4),
-        ],
-        count: list.len(),
-    }
+    session::command_of(low16(a.numbers[1]), slice::part32(numbers, a.numbers[2], a.counts[2]))
 }
 
 fn state(x: usize) -> Session {
