@@ -1,0 +1,101 @@
+"""Reads and writes that fail, injected: one sentence says what failed and why, the listing stops without its last line, and the status is 1.
+Where the reader of a pipe has gone, the program goes quietly."""
+
+import os
+import pty
+import re
+import subprocess
+import tempfile
+import time
+import tty
+import unittest
+
+from door.sandbox import ROOT, result
+
+PTP = ROOT / "ptp"
+EXAMPLES = ROOT / "examples"
+DAY = EXAMPLES / "day.recording"
+LAST_LINE = re.compile(rb"^records \d+ bytes \d+\n\Z", re.MULTILINE)
+
+
+def hung_up():
+    """Both ends of a pseudo-terminal that changes no byte; it is hung up where the first is closed."""
+    ours, theirs = pty.openpty()
+    tty.setraw(theirs)
+    return ours, theirs
+
+
+def started(*words, **more):
+    return subprocess.Popen([PTP, "list", *words], stderr=subprocess.PIPE, start_new_session=True, **more)
+
+
+class Failures(unittest.TestCase):
+    def failed(self, status, out, said, why):
+        self.assertEqual(status, 1)
+        self.assertRegex(said, rf"\A[^\n]*{why}[^\n]*\n\Z")
+        self.assertIsNone(LAST_LINE.search(out), out[-200:])
+
+    def test_a_folder_as_standard_input(self):
+        folder = os.open(EXAMPLES, os.O_RDONLY | os.O_DIRECTORY)
+        self.addCleanup(os.close, folder)
+        status, out, said = result([PTP, "list"], stdin=folder)
+        self.failed(status, out.encode(), said, "Is a directory")
+
+    def test_a_file_that_cannot_be_read(self):
+        status, out, said = result([PTP, "list", "/proc/self/mem"])
+        self.failed(status, out.encode(), said, "Input/output error")
+
+    def test_no_space_left(self):
+        for words in ((), ("--check",)):
+            with self.subTest(words), open("/dev/full", "wb") as full:
+                ended = subprocess.run([PTP, "list", *words, DAY], stdout=full, stderr=subprocess.PIPE, timeout=60)
+                self.failed(ended.returncode, b"", ended.stderr.decode(), "No space left on device")
+
+    def test_a_closed_standard_input(self):
+        status, out, said = result(["sh", "-c", f"'{PTP}' list <&-"])
+        self.failed(status, out.encode(), said, "standard input")
+
+    def test_a_closed_pipe(self):
+        with tempfile.TemporaryFile() as long:
+            long.write((EXAMPLES / "notes.recording").read_bytes() * 20_000)
+            long.seek(0)
+            running = started(stdin=long, stdout=subprocess.PIPE)
+            self.assertTrue(running.stdout.read(100))
+            running.stdout.close()
+            self.assertEqual(running.stderr.read(), b"")
+            running.stderr.close()
+            self.assertEqual(running.wait(10), 128 + 13)
+
+    def test_a_terminal_hung_up_while_it_is_read(self):
+        ours, theirs = hung_up()
+        running = started(stdin=theirs, stdout=subprocess.PIPE)
+        os.close(theirs)
+        data = DAY.read_bytes()
+        os.write(ours, data[:len(data) // 2])
+        out = running.stdout.read(100)
+        self.assertTrue(out)
+        time.sleep(1)  # so that the program waits for more: who reads later than the end of the line sees an end of file
+        os.close(ours)
+        out += running.stdout.read()
+        said = running.stderr.read().decode()
+        running.stdout.close()
+        running.stderr.close()
+        self.failed(running.wait(10), out, said, "Input/output error")
+
+    def test_a_terminal_hung_up_while_it_is_written(self):
+        ours, theirs = hung_up()
+        with tempfile.TemporaryFile() as long:
+            long.write((EXAMPLES / "notes.recording").read_bytes() * 20_000)
+            long.seek(0)
+            running = started(stdin=long, stdout=theirs)
+            os.close(theirs)
+            out = os.read(ours, 100)
+            self.assertTrue(out)
+            os.close(ours)
+            said = running.stderr.read().decode()
+            running.stderr.close()
+            self.failed(running.wait(10), out, said, "Input/output error")
+
+
+if __name__ == "__main__":
+    unittest.main()
