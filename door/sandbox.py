@@ -2,6 +2,7 @@
 
 import os
 import pathlib
+import select
 import shutil
 import subprocess
 import tempfile
@@ -34,6 +35,12 @@ def result(command, **words):
         del words["stdin"]
     run = subprocess.run([str(word) for word in command], stdout=subprocess.PIPE, stderr=subprocess.PIPE, timeout=60, **words)
     return run.returncode, run.stdout.decode(), run.stderr.decode()
+
+
+def read_some(file, seconds=30):
+    """What comes next, and nothing at the end of the file or where nothing comes for so long."""
+    ready, _, _ = select.select([file], [], [], seconds)
+    return os.read(file.fileno(), 1 << 16) if ready else b""
 
 
 class Sandbox:

@@ -1,11 +1,12 @@
 """What ./ptp does by itself: words, files, building, statuses. The programs are scripts: nothing need be proved for it."""
 
 import os
+import signal
 import subprocess
 import time
 import unittest
 
-from door.sandbox import Sandbox, result
+from door.sandbox import Sandbox, read_some, result
 
 CAT = "#!/bin/sh\nexec cat\n"
 LISTING = "place way kind code tid bytes\n0 note 3\n9 refusal %s\nrecords 1 bytes 9\n"
@@ -124,14 +125,14 @@ class Following(Door):
         grows.write_bytes(b"first ")
         started = subprocess.Popen([box.home / "ptp", "list", "--follow", grows], stdout=subprocess.PIPE, start_new_session=True)
         self.addCleanup(started.stdout.close)
-        self.assertEqual(os.read(started.stdout.fileno(), 100), b"first ")
+        self.assertEqual(read_some(started.stdout), b"first ")
         with grows.open("ab") as more:
             more.write(b"second")
-        self.assertEqual(os.read(started.stdout.fileno(), 100), b"second")
+        self.assertEqual(read_some(started.stdout), b"second")
         self.assertIsNone(started.poll())
-        os.killpg(started.pid, 2)
+        os.killpg(started.pid, signal.SIGINT)
         self.assertNotEqual(started.wait(10), 0)
-        self.assertEqual(os.read(started.stdout.fileno(), 100), b"")
+        self.assertEqual(read_some(started.stdout), b"")
 
     def test_it_ends_with_the_program(self):
         box = self.built("#!/bin/sh\nhead -c 3\n")

@@ -4,13 +4,14 @@ Where the reader of a pipe has gone, the program goes quietly."""
 import os
 import pty
 import re
+import signal
 import subprocess
 import tempfile
 import time
 import tty
 import unittest
 
-from door.sandbox import ROOT, result
+from door.sandbox import ROOT, read_some, result
 
 PTP = ROOT / "ptp"
 EXAMPLES = ROOT / "examples"
@@ -18,15 +19,25 @@ DAY = EXAMPLES / "day.recording"
 LAST_LINE = re.compile(rb"^records \d+ bytes \d+\n\Z", re.MULTILINE)
 
 
-def hung_up():
-    """Both ends of a pseudo-terminal that changes no byte; it is hung up where the first is closed."""
+def terminal():
+    """Both ends of a pseudo-terminal that changes no byte. It is hung up where the first is closed."""
     ours, theirs = pty.openpty()
     tty.setraw(theirs)
     return ours, theirs
 
 
-def started(*words, **more):
-    return subprocess.Popen([PTP, "list", *words], stderr=subprocess.PIPE, start_new_session=True, **more)
+def started(**ends):
+    return subprocess.Popen([PTP, "list"], stderr=subprocess.PIPE, start_new_session=True, **ends)
+
+
+def ended(running):
+    """Its status, what it still wrote, and what it said; it may not take long."""
+    try:
+        out, said = running.communicate(timeout=60)
+    except subprocess.TimeoutExpired:
+        os.killpg(running.pid, signal.SIGKILL)
+        raise
+    return running.returncode, out or b"", said.decode()
 
 
 class Failures(unittest.TestCase):
@@ -56,45 +67,41 @@ class Failures(unittest.TestCase):
         self.failed(status, out.encode(), said, "standard input")
 
     def test_a_closed_pipe(self):
-        with tempfile.TemporaryFile() as long:
-            long.write((EXAMPLES / "notes.recording").read_bytes() * 20_000)
-            long.seek(0)
-            running = started(stdin=long, stdout=subprocess.PIPE)
-            self.assertTrue(running.stdout.read(100))
-            running.stdout.close()
-            self.assertEqual(running.stderr.read(), b"")
-            running.stderr.close()
-            self.assertEqual(running.wait(10), 128 + 13)
+        running = started(stdin=self.long_recording(), stdout=subprocess.PIPE)
+        self.assertTrue(read_some(running.stdout))
+        running.stdout.close()
+        self.assertEqual(ended(running), (128 + 13, b"", ""))
 
     def test_a_terminal_hung_up_while_it_is_read(self):
-        ours, theirs = hung_up()
+        ours, theirs = terminal()
         running = started(stdin=theirs, stdout=subprocess.PIPE)
         os.close(theirs)
         data = DAY.read_bytes()
         os.write(ours, data[:len(data) // 2])
-        out = running.stdout.read(100)
+        out = read_some(running.stdout)
         self.assertTrue(out)
-        time.sleep(1)  # so that the program waits for more: who reads later than the end of the line sees an end of file
+        time.sleep(1)  # so that the program waits for more: who reads after the end of the line sees an end of file
         os.close(ours)
-        out += running.stdout.read()
-        said = running.stderr.read().decode()
-        running.stdout.close()
-        running.stderr.close()
-        self.failed(running.wait(10), out, said, "Input/output error")
+        status, more, said = ended(running)
+        self.failed(status, out + more, said, "Input/output error")
 
     def test_a_terminal_hung_up_while_it_is_written(self):
-        ours, theirs = hung_up()
-        with tempfile.TemporaryFile() as long:
-            long.write((EXAMPLES / "notes.recording").read_bytes() * 20_000)
-            long.seek(0)
-            running = started(stdin=long, stdout=theirs)
-            os.close(theirs)
-            out = os.read(ours, 100)
-            self.assertTrue(out)
-            os.close(ours)
-            said = running.stderr.read().decode()
-            running.stderr.close()
-            self.failed(running.wait(10), out, said, "Input/output error")
+        ours, theirs = terminal()
+        running = started(stdin=self.long_recording(), stdout=theirs)
+        os.close(theirs)
+        out = os.read(ours, 100)
+        self.assertTrue(out)
+        os.close(ours)
+        status, _, said = ended(running)
+        self.failed(status, out, said, "Input/output error")
+
+    def long_recording(self):
+        """Notes, more than any buffer holds, as an open file."""
+        file = tempfile.TemporaryFile()
+        self.addCleanup(file.close)
+        file.write((EXAMPLES / "notes.recording").read_bytes() * 20_000)
+        file.seek(0)
+        return file
 
 
 if __name__ == "__main__":

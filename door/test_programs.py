@@ -3,11 +3,12 @@
 import os
 import pathlib
 import shutil
+import signal
 import subprocess
 import tempfile
 import unittest
 
-from door.sandbox import ROOT, result
+from door.sandbox import ROOT, read_some, result
 
 PTP = ROOT / "ptp"
 EXAMPLES = ROOT / "examples"
@@ -51,13 +52,13 @@ class Programs(unittest.TestCase):
             grows = pathlib.Path(folder) / "grows"
             grows.write_bytes(data[:half])
             started = subprocess.Popen([PTP, "list", "--follow", grows], stdout=subprocess.PIPE, start_new_session=True)
-            seen = os.read(started.stdout.fileno(), 1 << 16)
+            seen = read_some(started.stdout)
             with grows.open("ab") as more:
                 more.write(data[half:])
             lines = expected[:expected.rindex(b"records ")]
-            while len(seen) < len(lines):
-                seen += os.read(started.stdout.fileno(), 1 << 16)
-            os.killpg(started.pid, 2)
+            while len(seen) < len(lines) and (more := read_some(started.stdout)):
+                seen += more
+            os.killpg(started.pid, signal.SIGINT)
             started.wait(10)
             seen += started.stdout.read()
             started.stdout.close()
