@@ -46,6 +46,9 @@ class Words(Door):
         there = box.home / "crates.txt"
         self.refused(box, [], "no command")
         self.refused(box, ["lits"], "lits")
+        self.refused(box, ["lits", "--help"], "lits")
+        self.refused(box, ["help", "lits"], "lits")
+        self.refused(box, ["list", ""], "there is no file")
         self.refused(box, ["list", "--chekc"], "--chekc")
         self.refused(box, ["ask", "--check"], "--check")
         self.refused(box, ["list", there, "second"], "second")

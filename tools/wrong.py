@@ -33,19 +33,14 @@ def write(path, text):
         file.write(text)
 
 
-def own(crate):
-    """The crate's edits that the gate does not try."""
-    return [edit for edit in edits.of_crate(crate) if not edit.is_gate]
-
-
 def chosen(words):
-    """The edits to try, by their crate."""
+    """The edits to try, by their crate. One that the gate tries is tried here where it is named."""
     plan = {}
     for word in words or edits.crates():
         crate, _, label = word.partition('/')
         if crate not in edits.crates():
             sys.exit('wrong: there is no file wrong/%s.edits' % crate)
-        named = [edit for edit in own(crate) if label in ('', edit.label)]
+        named = [edit for edit in edits.of_crate(crate) if label == edit.label or not (label or edit.is_gate)]
         if label and not named:
             sys.exit('wrong: wrong/%s.edits has no edit %s' % (crate, label))
         plan.setdefault(crate, []).extend(named)
