@@ -45,6 +45,12 @@ class Programs(unittest.TestCase):
     def test_ask(self):
         self.assertEqual(result([PTP, "ask"], input=b"response-name 0x2001\nno question\n"), (0, "ok Ok\n?\n", ""))
 
+    def test_wrong_names_what_it_does_not_know(self):
+        for word in ("nowhere", "layout/nothing", "--words"):
+            status, out, said = result([PTP, "wrong", word], env=NO_KIT)
+            self.assertEqual((status, out), (2, ""))
+            self.assertRegex(said, rf"\A[^\n]*{word.split('/')[-1]}[^\n]*\n\Z")
+
     def test_a_recording_that_grows(self):
         data = (EXAMPLES / "day.recording").read_bytes()
         half, expected = len(data) // 2, listing("day").encode()

@@ -33,16 +33,22 @@ def write(path, text):
         file.write(text)
 
 
+def fail(sentence):
+    """There is nothing to try: status 2, as ./ptp has it."""
+    print('wrong: ' + sentence, file=sys.stderr)
+    sys.exit(2)
+
+
 def chosen(words):
     """The edits to try, by their crate. One that the gate tries is tried here where it is named."""
     plan = {}
     for word in words or edits.crates():
         crate, _, label = word.partition('/')
         if crate not in edits.crates():
-            sys.exit('wrong: there is no file wrong/%s.edits' % crate)
+            fail('there is no file wrong/%s.edits' % crate)
         named = [edit for edit in edits.of_crate(crate) if label == edit.label or not (label or edit.is_gate)]
         if label and not named:
-            sys.exit('wrong: wrong/%s.edits has no edit %s' % (crate, label))
+            fail('wrong/%s.edits has no edit %s' % (crate, label))
         plan.setdefault(crate, []).extend(named)
     return plan
 
@@ -109,12 +115,12 @@ def try_crate(crate, chosen_edits):
 
 
 def main(words):
-    if not shutil.which('rt'):
-        sys.exit('wrong: the Rattle kit is missing: no rt on the path')
     try:
         plan = chosen(words)
     except BadEdit as fault:
-        sys.exit('wrong: %s' % fault)
+        fail(str(fault))
+    if not shutil.which('rt'):
+        fail('the Rattle kit is missing: no rt on the path')
     status, log = rt(ROOT, 'check', *plan)
     if status:
         sys.exit('%swrong: not all is proved as it stands' % log)
