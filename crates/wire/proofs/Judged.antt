@@ -1,10 +1,10 @@
 -- What `read_header` and `read_container` answer, said with no reader: they meet specs/Refused, which determines the answer. A field is there or it is not; then its
 -- test holds or it does not.
 -- Assumes nothing.
-use mathlib.Core.Path.{_≡_, refl, sym, ap, _∙_, subst}
+use mathlib.Core.Path.{_≡_, refl, sym}
 use mathlib.Core.Bool.{Bool, true, false}
 use mathlib.Core.Logic.{_⊎_, inl, inr}
-use mathlib.Core.List.{List, [], _++_}
+use mathlib.Core.List.{List}
 use Prim.Native.Nat.{ℕ, _+_, _-_, _≤_, _<_}
 use native.Mathlib.Nat.{add-zero}
 use native.Mathlib.Omega.{arith}
@@ -14,12 +14,12 @@ use lib.ListN.{length, take, drop, length-drop}
 use lib.Seq.{drop-drop}
 use Rattle.layout.specs.Answer.{Told, Answer, got, refused, pick, after, endAt, bare, spanAt, fieldAt}
 use Rattle.layout.specs.Bytes.{number}
-use Rattle.layout.specs.Refusals.{KIND, LENGTH, SIZE}
+use Rattle.layout.specs.Refusals.{SIZE}
 use Rattle.layout.proofs.Make.{Spanned, there, short, spanned}
 use Rattle.wire.specs.Places.{numAt}
 use Rattle.wire.specs.Container.{isKind, headerRest, headerAt, containerAt, saysHeader, saysContainer}
 use Rattle.wire.specs.Tests.{_gives_else_, holds, fails, Otherwise, otherwise}
-use Rattle.wire.specs.Refused.{announced, kindIn, codeIn, numberIn, HeaderTests, headerIn, HeaderSays, ContainerTests, containerIn, ContainerSays}
+use Rattle.wire.specs.Refused.{announced, kindIn, HeaderTests, headerIn, HeaderSays, containerIn, ContainerSays}
 use Rattle.wire.specs.declared.container.Header.{Header}
 use Rattle.wire.specs.declared.container.Container.{Container}
 use Rattle.wire.specs.declared.container.ReadHeader.{ReadHeader}
@@ -93,7 +93,7 @@ field-row {A} {Q} w k s at q {p} f some d e on = go (spanAt p w s p) (spanned p 
 
 -- ── a header ──
 
-header-judged : (s : List ℕ) (at : ℕ) → HeaderSays at (drop at s) (headerAt s at)
+pub header-judged : (s : List ℕ) (at : ℕ) → HeaderSays at (drop at s) (headerAt s at)
 unfolding headerAt headerRest isKind
 header-judged s at =
     let d = drop at s in
@@ -115,7 +115,7 @@ beyond at d k f =
     least : {m n : ℕ} → (n < m → ⊥) → m ≤ n
     least {m} {n} not-less = omega arith
 
-container-judged : (s : List ℕ) (at : ℕ) → ContainerSays at (drop at s) (containerAt s at)
+pub container-judged : (s : List ℕ) (at : ℕ) → ContainerSays at (drop at s) (containerAt s at)
 unfolding containerAt after
 container-judged s at = beyond at (drop at s) _ rest (headerAt s at) (header-judged s at)
   where

@@ -1,14 +1,14 @@
 -- What bytes that follow do to the answer of `read_header` and `read_container`: an answer other than 1 and 6 stays, since what it rests on is there already; and
 -- zeros enough after the bytes give such an answer, since then the header and all that it announces are there.
 -- Assumes nothing.
-use mathlib.Core.Path.{_≡_, refl, sym, ap, _∙_}
+use mathlib.Core.Path.{_≡_, refl, ap}
 use mathlib.Core.Bool.{Bool, true, false}
 use mathlib.Core.List.{List, _++_, append-assoc}
 use Prim.Native.Nat.{ℕ, _+_, _-_, _≤_, _<_}
 use native.Mathlib.Omega.{arith}
 use borrow.Author.Tests.{le-leb, leb-true}
 use lib.Dec.{leb}
-use lib.ListN.{length, take, drop, replicate, length-append, length-drop, length-replicate}
+use lib.ListN.{length, drop, replicate, length-append, length-drop, length-replicate}
 use Rattle.layout.specs.Answer.{Answer, got, refused, pick, after, bare}
 use Rattle.layout.specs.Bytes.{Bytes, number}
 use Rattle.layout.specs.Fault.{Stays, same, more, Final}
