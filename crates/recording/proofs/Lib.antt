@@ -1,3 +1,4 @@
 pub mod Recorded
 pub mod Rowed
 pub mod Unique
+pub mod Judged
