@@ -14,7 +14,7 @@ use Rattle.recording.specs.declared.Record.{Record}
 
 -- what a body holds, by the record's kind: a container has the body's kind, code, number and payload
 pub data Held (body s : List ℕ) : ℕ → Content → Type 0 where
-  a-note : Held body s 3 content.Note
+  a-note : {kind : ℕ} → kind ≡ 3 → Held body s kind content.Note
   a-container : {kind : ℕ} {x : Container} → (kind ≡ 3 → ⊥) → x .kind ≡ kindIn body → x .code ≡ codeIn body → x .number ≡ numberIn body → partOf s (x .payload) ≡ drop 12 body →
       Held body s kind (content.Holds x)
 
