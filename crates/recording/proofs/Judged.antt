@@ -1,7 +1,7 @@
 -- What `read_record` and `is_cut` answer, said with no reader: they meet specs/Refused, which determines the answer. A field is there or it is not; then its test holds
 -- or it does not; and the body's container is judged as every container is.
 -- Assumes nothing.
-use mathlib.Core.Path.{_≡_, refl, sym, ap, _∙_}
+use mathlib.Core.Path.{_≡_, refl, _∙_}
 use mathlib.Core.Bool.{Bool, true, false}
 use mathlib.Core.Logic.{_⊎_, inl, inr}
 use mathlib.Core.List.{List}
@@ -12,17 +12,16 @@ use lib.Dec.{leb, eqb, lit≤}
 use lib.ListN.{length, take, drop, length-drop}
 use lib.Seq.{length-take-le}
 use Rattle.layout.specs.Answer.{Answer, got, refused, pick, after, means, endAt, bare, spanAt}
-use Rattle.layout.specs.Refusals.{TRAIL, RECORD, LONG}
+use Rattle.layout.specs.Refusals.{TRAIL}
 use Rattle.layout.proofs.Make.{Spanned, there, short, spanned}
 use Rattle.layout.proofs.Reading.{drop-take}
 use Rattle.wire.specs.Container.{containerAt}
 use Rattle.wire.specs.Tests.{_gives_else_, holds, fails, Otherwise, otherwise}
-use Rattle.wire.specs.Refused.{announced, kindIn, HeaderTests, ContainerTests, containerIn, ContainerSays}
+use Rattle.wire.specs.Refused.{announced, kindIn, ContainerTests, containerIn, ContainerSays}
 use Rattle.wire.specs.declared.container.Container.{Container}
-use Rattle.wire.proofs.Judged.{one-test, one-otherwise, till, goes-on, enough, least-row, the-same, field-row, beyond, container-judged}
+use Rattle.wire.proofs.Judged.{one-test, one-otherwise, till, goes-on, enough, least-row, field-row, beyond, container-judged}
 use Rattle.recording.specs.Record.{limit, isKind, begins, contentAt, bodyAt, recordOf, saysRecord}
 use Rattle.recording.specs.Refused.{bodyIn, recordIn, FilledSays, ContentSays, BodySays, RecordSays}
-use Rattle.recording.specs.declared.Content.{Content}
 use Rattle.recording.specs.declared.Content.the-variants as content
 use Rattle.recording.specs.declared.Record.{Record}
 use Rattle.recording.specs.declared.ReadRecord.{ReadRecord}

@@ -1,8 +1,9 @@
--- What bytes that follow do to the answer of `read_record`: nothing where the record is not cut, which is what `is_cut` tells; and zeros enough after the bytes make every record
+-- What bytes that follow do to the answer of `read_record`: nothing where the record is not cut, which is what `is_cut` tells; where it is, the answer is 1, and zeros enough after the bytes make every record
 -- whole, or refused for good.
 -- Assumes nothing.
 use mathlib.Core.Path.{_≡_, refl, sym, ap, _∙_}
 use mathlib.Core.Bool.{Bool, true, false}
+use mathlib.Core.Logic.{inl, inr}
 use mathlib.Core.List.{List, _++_, append-assoc}
 use Prim.Native.Nat.{ℕ, _+_, _-_, _≤_, _<_}
 use native.Mathlib.Omega.{arith}
@@ -12,15 +13,18 @@ use lib.ListN.{length, take, drop, replicate, length-append, length-replicate}
 use lib.Seq.{take-append-le}
 use Rattle.layout.specs.Answer.{Answer, got, refused, pick, after, spanAt, fieldAt}
 use Rattle.layout.specs.Bytes.{Bytes, number}
+use Rattle.layout.specs.Fault.{Ends}
 use Rattle.layout.proofs.Final.{Bytes-append, Bytes-zeros}
 use Rattle.layout.proofs.Make.{Spanned, there, short, spanned}
 use Rattle.wire.specs.Refused.{announced, kindIn}
-use Rattle.wire.specs.Tests.{_gives_else_, holds, fails, Otherwise, otherwise}
-use Rattle.wire.proofs.Judged.{one-test, one-otherwise}
+use Rattle.wire.specs.Tests.{holds, fails, otherwise}
+use Rattle.wire.proofs.Judged.{one-test, one-otherwise, enough}
 use Rattle.recording.specs.Record.{limit, isKind, recordOf, saysRecord}
-use Rattle.recording.specs.Refused.{Cut, in-front, in-body, CutSays}
+use Rattle.recording.specs.Refused.{BodySays, RecordSays, Cut, in-front, in-body, CutSays}
 use Rattle.recording.specs.Row.{orCut, shortOf, isCut}
 use Rattle.recording.specs.declared.ReadRecord.{ReadRecord}
+use Rattle.recording.specs.declared.Record.{Record}
+use Rattle.recording.proofs.Judged.{record-says}
 use Rattle.recording.proofs.Rowed.{uncut-same}
 
 -- ── whether a record is cut ──
@@ -66,6 +70,24 @@ module _ (s : List ℕ) where
 
   pub cut-one : (x y : Bool) → CutSays s x → CutSays s y → x ≡ y
   cut-one = one-test one-otherwise
+
+-- it is refused with 1
+cut-ends : (s : List ℕ) (x : Answer Record) → Cut s → RecordSays s x → Ends x
+cut-ends s x c (holds h) = (0, refl)
+cut-ends s x c (fails n₁ (holds h)) = (4, refl)
+cut-ends s x c (fails n₁ (fails n₂ r)) = go c r
+  where
+    go : {y : Answer Record} → Cut s → BodySays s y → Ends y
+    go (in-front h) r = absurd (n₂ h)
+    go (in-body _ l low high small h) (holds (inl b)) = absurd (enough l b)
+    go (in-body _ l low high small h) (holds (inr (inl b))) = absurd (enough low b)
+    go (in-body _ l low high small h) (holds (inr (inr b))) = absurd (enough high b)
+    go (in-body _ l low high small h) (fails m₁ (holds b)) = absurd (enough small b)
+    go (in-body _ l low high small h) (fails m₁ (fails m₂ (holds b))) = (6, refl)
+    go (in-body _ l low high small h) (fails m₁ (fails m₂ (fails m₃ q))) = absurd (m₃ h)
+
+pub cut-refused : (s : List ℕ) → Cut s → (r : ReadRecord) → saysRecord r ≡ recordOf s → Ends (saysRecord r)
+cut-refused s c r promised = cut-ends s (saysRecord r) c (record-says s r promised)
 
 -- ── what stays ──
 

@@ -10,10 +10,10 @@ use native.Mathlib.Omega.{arith}
 use borrow.Author.Tests.{leb-true, eqb-true, eqb-false}
 use lib.Dec.{leb, eqb}
 use lib.ListN.{length, take, drop, length-append, length-drop}
-use lib.Seq.{take-append-seam, take-all, take-append-le, drop-append-le, drop-drop}
+use lib.Seq.{take-append-seam, drop-append-le}
 use Rattle.layout.specs.Answer.{Told, Answer, got, refused, pick, after, means, bare}
 use Rattle.layout.specs.Bytes.{bytes}
-use Rattle.layout.specs.Refusals.{SIZE, TRAIL, RECORD, LONG}
+use Rattle.layout.specs.Refusals.{TRAIL, RECORD, LONG}
 use Rattle.layout.specs.Written.{says, no, saidOf, Wrote}
 use Rattle.layout.proofs.Accepted.{accepted}
 use Rattle.layout.proofs.Numbers.{number-bytes}
@@ -25,10 +25,10 @@ use Rattle.wire.specs.Returned.{partOf}
 use Rattle.wire.specs.declared.container.Container.{Container}
 use Rattle.wire.proofs.Contained.{Boxed, container-stands}
 use Rattle.wire.proofs.Judged.{container-judged}
-use Rattle.wire.proofs.ReadBack.{Whole, whole}
+use Rattle.wire.proofs.ReadBack.{whole}
 use Rattle.recording.specs.Record.{limit, isKind, contentAt, recordOf, recordWord, recordSaid, saysRecord}
-use Rattle.recording.specs.Refused.{bodyIn, recordIn, FilledSays, ContentSays, RecordSays}
-use Rattle.recording.specs.Returned.{Held, a-note, a-container, ReturnsRecord}
+use Rattle.recording.specs.Refused.{bodyIn, recordIn, ContentSays, RecordSays}
+use Rattle.recording.specs.Returned.{a-note, a-container, ReturnsRecord}
 use Rattle.recording.specs.declared.Content.{Content}
 use Rattle.recording.specs.declared.Content.the-variants as content
 use Rattle.recording.specs.declared.Record.{Record}

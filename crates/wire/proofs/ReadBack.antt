@@ -111,6 +111,7 @@ module _ (kind code tid : ℕ) (payload behind : List ℕ) (known : isKind kind 
 pub record Whole (s : Said) (old : List ℕ) (n : ℕ) (new : List ℕ) : Type 0 where
   pub bs : List ℕ
   pub due : s ≡ says bs
+  pub fits : length bs ≤ length old
   pub count : n ≡ length bs
   pub left : new ≡ bs ++ drop (length bs) old
 
@@ -120,11 +121,11 @@ whole {s} {old} {new} {n} w = of s refl (w .answers) (w .leaves)
   where
     of : (z : Said) → s ≡ z → got tt n ≡ answerOf z old → new ≡ leftOf z old → Whole s old n new
     of (no t) d e f = zero-one (cc)
-    of (says bs) d e f = go (leb (length bs) (length old)) e f
+    of (says bs) d e f = go (leb (length bs) (length old)) refl e f
       where
-        go : (b : Bool) → _≡_ {A = Answer (Unit {0})} (got tt n) (pick b (got tt (length bs)) (refused (bare ROOM))) → new ≡ pick b (bs ++ drop (length bs) old) old → Whole s old n new
-        go true e f = record { bs = bs; due = d; count = cc; left = f }
-        go false e f = zero-one (cc)
+        go : (b : Bool) → leb (length bs) (length old) ≡ b → _≡_ {A = Answer (Unit {0})} (got tt n) (pick b (got tt (length bs)) (refused (bare ROOM))) → new ≡ pick b (bs ++ drop (length bs) old) old → Whole s old n new
+        go true h e f = record { bs = bs; due = d; fits = leb-true (length bs) (length old) h; count = cc; left = f }
+        go false h e f = zero-one (cc)
 
 pub record Due (kind code tid : ℕ) (payload w : List ℕ) : Type 0 where
   pub known : isKind kind ≡ true
@@ -144,28 +145,28 @@ due kind code tid payload w e = go (isKind kind) refl (leb (length payload) 4294
 -- ── of the functions' own answers ──
 
 module _ (kind code tid : ℕ) (payload old new : List ℕ) (n : ℕ) (code-fits : code < 256 ^ 2) (tid-fits : tid < 256 ^ 4) (promised : Wrote (containerSaid kind code tid payload) old (got tt n) new) where
-  a : Whole (containerSaid kind code tid payload) old n new
-  a = whole promised
+  wrote-all : Whole (containerSaid kind code tid payload) old n new
+  wrote-all = whole promised
 
-  d : Due kind code tid payload (a .bs)
-  d = due kind code tid payload (a .bs) (a .due)
+  was-due : Due kind code tid payload (wrote-all .bs)
+  was-due = due kind code tid payload (wrote-all .bs) (wrote-all .due)
 
-  stands : new ≡ containerWord kind code tid payload ++ drop (length (a .bs)) old
-  stands = a .left ∙ ap (λ w. w ++ drop (length (a .bs)) old) (d .word)
+  stands : new ≡ containerWord kind code tid payload ++ drop (length (wrote-all .bs)) old
+  stands = wrote-all .left ∙ ap (λ w. w ++ drop (length (wrote-all .bs)) old) (was-due .word)
 
   till : 0 + (12 + length payload) ≡ n
-  till = omega (arith, a .count, ap length (d .word), container-length kind code tid payload)
+  till = omega (arith, wrote-all .count, ap length (was-due .word), container-length kind code tid payload)
 
   pub header-returns : (r : ReadHeader) → saysHeader r ≡ headerAt new 0 → saysHeader r ≡ got (record { kind = kind; code = code; number = tid; «payload_len» = length payload }) 12
-  header-returns r e = e ∙ header-there kind code tid payload (drop (length (a .bs)) old) (d .known) code-fits tid-fits (d .small) new 0 stands
+  header-returns r e = e ∙ header-there kind code tid payload (drop (length (wrote-all .bs)) old) (was-due .known) code-fits tid-fits (was-due .small) new 0 stands
 
   pub container-returns : (r : ReadContainer) → saysContainer r ≡ containerAt new 0 → Returns kind code tid payload new n (saysContainer r)
   container-returns r e =
-      let rest = drop (length (a .bs)) old in
+      let rest = drop (length (wrote-all .bs)) old in
       record {
         part = record { start = 12; count = length payload };
-        answer = e ∙ rw till at (container-there kind code tid payload rest (d .known) code-fits tid-fits (d .small) new 0 stands);
-        holds = payload-there kind code tid payload rest (d .known) code-fits tid-fits (d .small) new 0 stands;
+        answer = e ∙ rw till at (container-there kind code tid payload rest (was-due .known) code-fits tid-fits (was-due .small) new 0 stands);
+        holds = payload-there kind code tid payload rest (was-due .known) code-fits tid-fits (was-due .small) new 0 stands;
       }
 
 -- ── commands ──
