@@ -4,26 +4,33 @@ use mathlib.Core.Path.{_≡_, refl, ap}
 use mathlib.Core.Bool.{Bool, true, false}
 use mathlib.Core.List.{List, [], _∷_, _++_, append-assoc, append-nil}
 use mathlib.Core.Option.{Option, none, some}
-use Prim.Native.Nat.{ℕ, zero, suc, _+_, _-_, _≤_, _<_}
+use Prim.Native.Nat.{ℕ, zero, suc, _-_, _≤_, _<_}
 use Prim.Native.String.{String}
 use native.Mathlib.Nat.{not-suc-le-zero, le-of-suc-le-suc}
-use native.Mathlib.Omega.{arith}
-use borrow.Author.Tests.{ltb-true, lt-ltb, le-leb, ne-eqb}
-use lib.Dec.{leb, ltb, eqb}
-use lib.ListN.{length, take, drop, length-append}
+use borrow.Author.Tests.{ltb-true, le-ltb, lt-ltb, le-leb, lt-leb}
+use lib.Dec.{leb, ltb}
+use lib.ListN.{length, take, drop, getD, length-append}
 use lib.Seq.{take-append-seam, drop-append-add}
 use Rattle.layout.specs.Answer.{pick}
-use Rattle.names.specs.Names.{responses, commands, spelled, joined, nameBytes, given, entryOf, nameAt, placeAt, packed, responseName, commandName, responsePlace, commandPlace, entry, unpacked}
+use Rattle.names.specs.Names.{responses, commands, spelled, joined, nameBytes, given, entryOf, nameAt, placeAt, responseName, commandName, responsePlace, commandPlace}
 use Rattle.names.specs.Says.{bytesAt}
-use Rattle.names.proofs.Tables.{responseTable, commandTable, Ruled, response-ruled, command-ruled, apart}
+use Rattle.names.proofs.Tables.{Ruled, response-ruled, command-ruled}
 
 -- ── the entry of a code ──
 
-pub in-table : (base n code k : ℕ) → code ≡ base + k → k < n → entryOf base n code ≡ some k
+pub before-table : (base n code : ℕ) → code < base → entryOf base n code ≡ none
 unfolding entryOf
-in-table base n code k e h =
-    let same : code - base ≡ k = omega arith in
-    rw (le-leb base code (omega arith), same, lt-ltb k n h)
+before-table base n code h = rw (lt-leb base code h)
+
+pub past-table : (base n code : ℕ) → base ≤ code → n ≤ code - base → entryOf base n code ≡ none
+unfolding entryOf
+past-table base n code h k = rw (le-leb base code h, le-ltb (code - base) n k)
+
+-- the table's numbers are the place of the name
+pub in-table : (base first : ℕ) (names : List String) {starts lengths : List ℕ} {code : ℕ} → base ≤ code → code - base < length names → Ruled first names starts lengths (code - base) →
+    _≡_ {A = Option (ℕ × ℕ)} (some (getD starts (code - base) 0, getD lengths (code - base) 0)) (given (placeAt first names) (entryOf base (length names) code))
+unfolding entryOf
+in-table base first names {code = code} h k r = rw (le-leb base code h, lt-ltb (code - base) (length names) k, r .start, r .len)
 
 -- an entry is one of the table's
 pub entered : (base n code : ℕ) → (P : Option ℕ → Type 0) → P none → ((k : ℕ) → k < n → P (some k)) → P (entryOf base n code)
@@ -38,29 +45,9 @@ entered base n code P o f = outer (leb base code)
     outer true = inner (ltb (code - base) n) refl
     outer false = o
 
--- an entry gives its place back
-pub back : (base first : ℕ) (names : List String) (table : List ℕ) → ((k : ℕ) → k < length names → Ruled first names table k) → (code : ℕ) →
-    unpacked (entry (given (placeAt first names) (entryOf base (length names) code))) ≡ given (placeAt first names) (entryOf base (length names) code)
-back base first names table ruled code =
-    entered base (length names) code (λ e. unpacked (entry (given (placeAt first names) e)) ≡ given (placeAt first names) e) refl
-    λ k h.
-    let r = ruled k h in
-    let a = apart r refl in
-    let m = packed (placeAt first names k) in
-    let some-name : eqb m 0 ≡ false = ne-eqb m 0 (λ z. let n = r .named in omega arith) in
-    rw (some-name, a .0, a .1)
-
-pub response-back : (code : ℕ) → unpacked (entry (responsePlace code)) ≡ responsePlace code
-unfolding responsePlace responses
-response-back = back 0x2000 0 responses responseTable response-ruled
-
-pub command-back : (code : ℕ) → unpacked (entry (commandPlace code)) ≡ commandPlace code
-unfolding commandPlace commands
-command-back = back 0x1000 (length (joined responses)) commands commandTable command-ruled
-
 -- ── the name at its place ──
 
-pub front : (names : List String) (k : ℕ) (rest : List ℕ) → k < length names → take (length (nameAt names k)) (drop (length (joined (take k names))) (joined names ++ rest)) ≡ nameAt names k
+front : (names : List String) (k : ℕ) (rest : List ℕ) → k < length names → take (length (nameAt names k)) (drop (length (joined (take k names))) (joined names ++ rest)) ≡ nameAt names k
 front [] k rest h = absurd (not-suc-le-zero h)
 front (n ∷ ns) zero rest h = rw append-assoc (take-append-seam (spelled n) (joined ns ++ rest))
 front (n ∷ ns) (suc k) rest h =
@@ -91,8 +78,8 @@ Short (some bs) = length bs ≤ 37
 
 pub response-short : (code : ℕ) → Short (responseName code)
 unfolding responseName responses
-response-short code = entered 0x2000 (length responses) code (λ e. Short (given (nameAt responses) e)) tt λ k h. response-ruled k h .short
+response-short code = entered 0x2000 (length responses) code (λ e. Short (given (nameAt responses) e)) tt λ k h. let r = response-ruled k h in rw (r .len) at (r .short)
 
 pub command-short : (code : ℕ) → Short (commandName code)
 unfolding commandName commands
-command-short code = entered 0x1000 (length commands) code (λ e. Short (given (nameAt commands) e)) tt λ k h. command-ruled k h .short
+command-short code = entered 0x1000 (length commands) code (λ e. Short (given (nameAt commands) e)) tt λ k h. let r = command-ruled k h in rw (r .len) at (r .short)

@@ -1,2 +1,4 @@
 pub mod Record
 pub mod Row
+pub mod Refused
+pub mod Returned
