@@ -1,6 +1,8 @@
 pub mod Numerals
 pub mod Pieces
 pub mod Windows
+pub mod Held
+pub mod Turning
 pub mod Fitting
 pub mod Whole
 pub mod Unique

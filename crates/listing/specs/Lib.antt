@@ -2,3 +2,4 @@ pub mod Lines
 pub mod Listing
 pub mod Window
 pub mod Printed
+pub mod Turn

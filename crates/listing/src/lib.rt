@@ -8,9 +8,18 @@ ghost use Rattle.listing.specs.Window.{answered, windowOf, Lists};
 ghost use Rattle.listing.specs.Window.{waits as Window·waits};
 
 mod line;
+mod turn;
 
 use layout::Written;
 use recording::ReadRecord;
+pub use turn::Next;
+pub use turn::Stage;
+pub use turn::Stand;
+pub use turn::Turn;
+pub use turn::join;
+pub use turn::keep;
+pub use turn::start;
+pub use turn::take_turn;
 
 // How far the listing has come: the place of the next record, and the whole records before it.
 pub struct Tally {
@@ -33,11 +42,10 @@ const LINE_ROOM: usize = 128;
 pub fn write_heading(out: &mut [u8]) -> Written
     ensures { λ r. ⌜ Wrote (says heading) (now (out .entry)) (saysWritten r) (now (out .exit)) ⌝ }
 {
-    let text = b"place way kind code tid bytes\n";
     if out.len() < 30 {
         return Written::Refused(layout::plain(layout::ROOM));
     }
-    Written::Done(layout::copy(text, 0, 30, out, 0))
+    Written::Done(line::put_heading(out))
 }
 
 // Nothing more is to be listed of these bytes now.

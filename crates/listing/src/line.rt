@@ -5,7 +5,7 @@ ghost use lib.ListN.{length};
 ghost use Rattle.layout.specs.Written.{Put, roomed};
 ghost use Rattle.names.specs.Names.{nameBytes, given};
 ghost use Rattle.names.specs.Says.{saysName, bytesAt};
-ghost use Rattle.listing.specs.Lines.{decimal, hexCode, wayText, kindText, nameFor, codeText, countsText, containerLine, noteLine, refusalLine, recordLine, ending};
+ghost use Rattle.listing.specs.Lines.{heading, decimal, hexCode, wayText, kindText, nameFor, codeText, countsText, containerLine, noteLine, refusalLine, recordLine, ending};
 use layout::Refusal;
 use names::Name;
 use recording::Content;
@@ -137,6 +137,13 @@ pub(crate) fn put_record(place: u64, x: Record, names: &[u8], out: &mut [u8], at
         Content::Note => put_note(place, body.count as u64, out, at),
         Content::Holds(held) => put_container(place, x.kind, held, names, out, at),
     }
+}
+
+pub(crate) fn put_heading(out: &mut [u8]) -> usize
+    requires { ⌜ 30 ≤ length (now out) ⌝ }
+    ensures { λ r. ⌜ Put (now (out .entry)) 0 heading (now (out .exit)) r ⌝ }
+{
+    layout::copy(b"place way kind code tid bytes\n", 0, 30, out, 0)
 }
 
 pub(crate) fn put_ending(records: u64, count: u64, out: &mut [u8]) -> usize
