@@ -1,22 +1,27 @@
 -- Laws of a turn: which of its cases holds, and that what was listed and moved is what the case says.
 -- Assumes nothing.
 use mathlib.Core.Path.{_≡_, refl, sym, ap, _∙_}
-use mathlib.Core.Bool.{true, false}
+use mathlib.Core.Bool.{Bool, true, false}
 use mathlib.Core.List.{List}
 use Prim.Native.Nat.{ℕ, _+_, _-_, _≤_, _<_}
 use native.Mathlib.Nat.{zero-add}
 use native.Mathlib.Omega.{arith}
 use borrow.Author.Tests.{lt-ltb, le-ltb}
+use lib.Dec.{ltb}
 use lib.ListN.{length, take, drop, length-append, length-drop, take-append-drop}
+use Rattle.layout.specs.Answer.{pick}
 use Rattle.layout.specs.Written.{Put}
+use Rattle.layout.proofs.Tidied.{zero-one}
 use Rattle.layout.proofs.Writing.{put-front}
 use Rattle.listing.specs.declared.Listed.{Listed}
+use Rattle.listing.specs.declared.turn.Turn.{Turn}
 use Rattle.listing.specs.declared.turn.Stand.{Stand}
+use Rattle.listing.specs.declared.turn.Stage.{Stage}
 use Rattle.listing.specs.declared.turn.Stage.the-variants as stage
 use Rattle.listing.specs.declared.turn.Next.{Next}
 use Rattle.listing.specs.declared.turn.Next.the-variants as next
 use Rattle.listing.specs.Window.{Windowed, windowOf, Lists}
-use Rattle.listing.specs.Turn.{size, unlisted, fronted, Kept, stood, byListed, linesTurn, turned, Turns}
+use Rattle.listing.specs.Turn.{size, unlisted, fronted, Kept, stood, closes, goesOn, asks, byListed, linesTurn, turnAt, Turned, turnOf, turned, Turns}
 use Rattle.listing.proofs.Windows.{window-used}
 
 -- ── a turn of lines, by what was listed ──
@@ -91,3 +96,35 @@ used-most window {out} s long l =
       length-take-most (s .held - s .from) (drop (s .from) window),
       length-drop (s .from) window,
     )
+
+-- ── what a program needs to know to obey ──
+
+-- a turn's text stands in the output
+pub text-within : {t : Turned} {out window′ out′ : List ℕ} {r : Turn} → Turns t out r window′ out′ → r .written ≤ length out′
+text-within {t} {out} p = omega (arith, ap (λ (x : Turn). x .written) (p .answers), ap length (p .leaves), length-append (t .text) (drop (length (t .text)) out))
+
+-- where it says to read, the bytes that are held stand in the window
+read-held : (window : List ℕ) (s : Stand) → turnOf window s .next ≡ next.Read → turnOf window s .stand .held ≤ length (turnOf window s .window)
+unfolding turnOf linesTurn
+read-held window s e = go (s .stage) e
+  where
+    by : (w : Windowed) (a b c : Bool) →
+        pick a (closes window s w) (pick b (goesOn window s w) (pick c (closes window s w) (asks window s w))) .next ≡ next.Read →
+        pick a (closes window s w) (pick b (goesOn window s w) (pick c (closes window s w) (asks window s w))) .stand .held
+        ≤ length (pick a (closes window s w) (pick b (goesOn window s w) (pick c (closes window s w) (asks window s w))) .window)
+    by w true b c e = zero-one (cc)
+    by w false true c e = zero-one (cc)
+    by w false false true e = zero-one (cc)
+    by w false false false e = let h = unlisted window (s .from) (s .held) in omega (arith, length-append h (drop (length h) window))
+
+    go : (g : Stage) → turnAt g window s .next ≡ next.Read → turnAt g window s .stand .held ≤ length (turnAt g window s .window)
+    go stage.Heading e = zero-one (cc)
+    go stage.Lines e =
+        let w = windowOf (s .ended) size (unlisted window (s .from) (s .held)) (s .tally .place) (s .tally .records) in
+        by w (w .stopped) (ltb 0 (w .used)) (s .ended) e
+    go stage.Ending e = zero-one (cc)
+
+pub held-within : (window : List ℕ) (s : Stand) {out window′ out′ : List ℕ} {r : Turn} → Turns (turnOf window s) out r window′ out′ → r .next ≡ next.Read → r .stand .held ≤ length window′
+held-within window s p e =
+    let h = read-held window s (sym (ap (λ (x : Turn). x .next) (p .answers)) ∙ e) in
+    omega (arith, ap (λ (x : Turn). x .stand .held) (p .answers), ap length (p .keeps))
