@@ -1,4 +1,5 @@
 pub mod Numerals
+pub mod Spelling
 pub mod Pieces
 pub mod Windows
 pub mod Cut

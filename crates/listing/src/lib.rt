@@ -7,6 +7,7 @@ ghost use Rattle.listing.specs.Lines.{heading, ending};
 ghost use Rattle.listing.specs.Window.{answered, windowOf, Lists};
 ghost use Rattle.listing.specs.Window.{waits as Window·waits};
 
+mod decimal;
 mod line;
 mod turn;
 
