@@ -5,15 +5,19 @@ use mathlib.Core.Bool.{Bool, true, false}
 use mathlib.Core.List.{List}
 use Prim.Native.Nat.{ℕ, _+_, _-_, _≤_, _<_}
 use native.Mathlib.Omega.{arith}
-use borrow.Author.Tests.{leb-true, ltb-true, ltb-false}
+use borrow.Author.Tests.{leb-true, ltb-true, ltb-false, le-ltb, lt-ltb}
 use lib.Dec.{leb, ltb}
 use lib.ListN.{length, take, drop}
-use Rattle.layout.specs.Answer.{Answer, Told, got, refused, pick, after, spanAt, fieldAt}
+use Rattle.layout.specs.Answer.{Answer, Told, got, refused, pick, after, means, bare, spanAt, fieldAt}
 use Rattle.layout.specs.Bytes.{number}
+use Rattle.layout.specs.Refusals.{RECORD, LONG}
+use Rattle.layout.proofs.Accepted.{accepted}
 use Rattle.layout.proofs.Make.{Spanned, there, short, spanned}
 use Rattle.layout.proofs.Tidied.{zero-one}
 use Rattle.wire.specs.Places.{numAt}
-use Rattle.recording.specs.Record.{limit, begins}
+use Rattle.recording.specs.declared.Record.{Record}
+use Rattle.recording.specs.Record.{limit, begins, contentAt, bodyAt, recordOf}
+use Rattle.recording.proofs.Rowed.{record-stands}
 use Rattle.recording.specs.Row.{orCut, shortOf, isCut}
 use Rattle.listing.specs.Window.{waits}
 
@@ -68,3 +72,41 @@ waits-short s e = go (ltb 0 (length s)) refl e
     go : (b : Bool) → ltb 0 (length s) ≡ b → pick b (isCut s) true ≡ true → length s < 6 + limit
     go true h e = cut-short s e
     go false h e = omega (arith, ltb-false 0 (length s) h)
+
+-- ── a whole record is not cut ──
+
+body-ready : (len kind : ℕ) (s : List ℕ) (start : ℕ) {x : Record} {n : ℕ} → got x n ≡ bodyAt len kind s start → shortOf len kind s start ≡ false
+unfolding bodyAt shortOf after
+body-ready len kind s start {x} {n} e = go (begins len kind) (leb (len - 6) limit) (spanAt start (len - 6) s start) (spanned start (len - 6) s start) e
+  where
+    go :
+        (a b : Bool) (y : Answer (Unit {0})) → Spanned start (len - 6) s start y →
+        got x n ≡ pick a (pick b (after y λ _ next. means (λ c. record { kind = kind; body = record { start = start; count = len - 6 }; content = c }) (contentAt kind (take next s) start)) (refused (bare LONG))) (refused (bare RECORD)) →
+        pick a (pick b (ltb (length s - start) (len - 6)) false) false ≡ false
+    go true true (got t m) (there h) e = le-ltb (length s - start) (len - 6) h
+    go true true (refused t) (short h) e = zero-one (cc)
+    go true false y p e = refl
+    go false b y p e = refl
+
+whole-uncut : (s : List ℕ) {x : Record} {n : ℕ} → got x n ≡ recordOf s → isCut s ≡ false
+unfolding recordOf isCut after
+whole-uncut s {x} {n} e = first (numAt 4 s 0) e
+  where
+    second : (len : ℕ) (y : Answer ℕ) → got x n ≡ after y (λ kind start. bodyAt len kind s start) → orCut y (λ kind start. shortOf len kind s start) ≡ false
+    second len (got kind start) e = body-ready len kind s start e
+    second len (refused t) e = zero-one (cc)
+
+    first :
+        (y : Answer ℕ) → got x n ≡ after y (λ len a. after (numAt 2 s a) λ kind start. bodyAt len kind s start) →
+        orCut y (λ len a. orCut (numAt 2 s a) λ kind start. shortOf len kind s start) ≡ false
+    first (got len a) e = second len (numAt 2 s a) e
+    first (refused t) e = zero-one (cc)
+
+-- so it waits for nothing
+pub whole-ready : (last : Bool) (s : List ℕ) {x : Record} {n : ℕ} → got x n ≡ recordOf s → waits last s ≡ false
+unfolding waits
+whole-ready last s e = let p = accepted _ (record-stands s) e in rw (lt-ltb 0 (length s) (omega (arith, p .till, p .within)), whole-uncut s e) (go last)
+  where
+    go : (b : Bool) → pick b false false ≡ false
+    go true = refl
+    go false = refl

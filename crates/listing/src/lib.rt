@@ -83,9 +83,6 @@ fn list_from(s: &[u8], last: bool, start: u64, count: u64, names: &[u8], out: &m
     let mut records = count;
     while out.len() - written >= LINE_ROOM {
         let part = &s[used..];
-        if waits(part, last) {
-            return answer(used, written, place, records, false);
-        }
         match recording::read_record(part) {
             ReadRecord::Got(x, next) => {
                 let taken = next.at;
@@ -95,6 +92,9 @@ fn list_from(s: &[u8], last: bool, start: u64, count: u64, names: &[u8], out: &m
                 records = std::num::wrapping_add_u64(records, 1);
             }
             ReadRecord::Refused(f) => {
+                if waits(part, last) {
+                    return answer(used, written, place, records, false);
+                }
                 written = line::put_refusal(place, f, out, written);
                 return answer(used, written, place, records, true);
             }
