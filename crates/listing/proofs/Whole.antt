@@ -27,7 +27,7 @@ use Rattle.listing.proofs.Windows.{has-bytes, window-full, window-waits
 
 -- ── what remains, a record at a time ──
 
-remaining-none : (place records : ℕ) → remaining place records [] ≡ ending records place
+pub remaining-none : (place records : ℕ) → remaining place records [] ≡ ending records place
 unfolding remaining
 remaining-none place records = rw (records-none [] (omega arith))
 
