@@ -10,7 +10,7 @@ use Rattle.layout.specs.Answer.{Answer, got, refused, bare}
 use Rattle.layout.specs.Bytes.{Bytes}
 use Rattle.layout.specs.Refusals.{PLACE}
 use Rattle.layout.specs.Written.{says, answerOf, leftOf}
-use Rattle.layout.proofs.Writing.{wrote-so}
+use Rattle.layout.proofs.laws.Writing.{wrote-so}
 use Rattle.wire.specs.Layout.{nil, Value}
 use Rattle.wire.specs.List.{nthAt}
 use Rattle.wire.specs.Newer.{newerOf, newerPart}
@@ -19,8 +19,8 @@ use Rattle.wire.specs.Worded.{Worded, ends, valuesOf, Picks}
 use Rattle.wire.specs.declared.later.Chosen.{Chosen}
 use Rattle.wire.specs.declared.property.PropInfo.{PropInfo}
 use Rattle.wire.specs.declared.property.Slot.{Slot}
-use Rattle.wire.proofs.Nths.{nths}
-use Rattle.wire.proofs.Picked.{picks}
+use Rattle.wire.proofs.laws.Nths.{nths}
+use Rattle.wire.proofs.laws.Picked.{picks}
 use Rattle.abi.specs.Answered.{word, Gives, given}
 use Rattle.abi.specs.Rows.{slotRow, newerRow}
 

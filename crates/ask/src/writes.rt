@@ -36,7 +36,10 @@ fn number_at(list: &[u32], i: usize) -> u32 {
 
 // As many parameters as are given, of which only five have a place.
 fn command_of(a: Args, numbers: &[u32]) -> Command {
-    session::command_of(low16(a.numbers[1]), slice::part32(numbers, a.numbers[2], a.counts[2]))
+    session::command_of(
+        low16(a.numbers[1]),
+        slice::part32(numbers, a.numbers[2], a.counts[2]),
+    )
 }
 
 fn state(x: usize) -> Session {

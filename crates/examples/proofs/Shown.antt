@@ -13,8 +13,8 @@ use Rattle.wire.specs.Utf8.{points, encoded, encodedAll, utf8, utf8At}
 use Rattle.tree.specs.Table.{keptFrom, risesFrom, tableOk, nameAt, namesFrom, tableAt}
 use Rattle.tree.specs.Way.{climbed, fromRoot, way, depth, within, Walk}
 use Rattle.tree.specs.Path.{nameOf, pathOf, pathSaid}
-use Rattle.tree.proofs.Tested.{tested}
-use Rattle.tree.proofs.Ways.{one-walk}
+use Rattle.tree.proofs.laws.Tested.{tested}
+use Rattle.tree.proofs.laws.Ways.{one-walk}
 use Rattle.examples.specs.Table.{Example, shown, examples, objects}
 
 pub all-right : map (λ (e : Example). shown (e .given)) examples ≡ map (λ (e : Example). e .seen) examples

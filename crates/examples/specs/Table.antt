@@ -19,7 +19,7 @@ use Rattle.session.specs.Calls.{openSession}
 use Rattle.session.specs.Transaction.{freshSession}
 use Rattle.tree.specs.Table.{Table, table}
 use Rattle.tree.specs.Path.{pathSaid}
-use Rattle.tree.proofs.Tested.{walkTest}
+use Rattle.tree.proofs.laws.Tested.{walkTest}
 
 -- what is given
 pub data Given : Type 0 where

@@ -13,10 +13,10 @@ use Rattle.layout.specs.Faithful.{Faithful}
 use Rattle.layout.specs.Fault.{Ends, BadText, Clean, Fails, Along, Decides}
 use Rattle.layout.specs.Format.{Format, Stands, Sound, word, none}
 use Rattle.layout.specs.Grammar.{Spelling, loose, tidy, Grammar, Number, num, _then_, both, Such, such}
-use Rattle.layout.proofs.Decided.{decides}
-use Rattle.layout.proofs.Final.{number-faults, then-faults, such-faults}
-use Rattle.layout.proofs.Make.{number-format, then-format, such-format}
-use Rattle.layout.proofs.Meets.{faithful}
+use Rattle.layout.proofs.laws.Decided.{decides}
+use Rattle.layout.proofs.laws.Final.{number-faults, then-faults, such-faults}
+use Rattle.layout.proofs.laws.Make.{number-format, then-format, such-format}
+use Rattle.layout.proofs.laws.Meets.{faithful}
 
 abbrev pub nought : ℕ → Bool
 nought n = eqb n 0

@@ -11,13 +11,13 @@ use lib.ListN.{length, take, drop}
 use Rattle.layout.specs.Answer.{Answer, Told, got, refused, pick, after, means, bare, spanAt, fieldAt}
 use Rattle.layout.specs.Bytes.{number}
 use Rattle.layout.specs.Refusals.{RECORD, LONG}
-use Rattle.layout.proofs.Accepted.{accepted}
-use Rattle.layout.proofs.Make.{Spanned, there, short, spanned}
-use Rattle.layout.proofs.Tidied.{zero-one}
+use Rattle.layout.proofs.laws.Accepted.{accepted}
+use Rattle.layout.proofs.laws.Make.{Spanned, there, short, spanned}
+use Rattle.layout.proofs.laws.Tidied.{zero-one}
 use Rattle.wire.specs.Places.{numAt}
 use Rattle.recording.specs.declared.Record.{Record}
 use Rattle.recording.specs.Record.{limit, begins, contentAt, bodyAt, recordOf}
-use Rattle.recording.proofs.Rowed.{record-stands}
+use Rattle.recording.proofs.laws.Rowed.{record-stands}
 use Rattle.recording.specs.Row.{orCut, shortOf, isCut}
 use Rattle.listing.specs.Window.{waits}
 

@@ -10,12 +10,12 @@ use lib.ListN.{length, length-append}
 use Rattle.layout.specs.Answer.{Told, pick}
 use Rattle.layout.specs.Written.{Put}
 use Rattle.names.specs.Names.{spelled, responseName, commandName}
-use Rattle.names.proofs.Spells.{Short, response-short, command-short}
+use Rattle.names.proofs.laws.Spells.{Short, response-short, command-short}
 use Rattle.wire.specs.declared.container.Container.{Container}
 use Rattle.recording.specs.declared.Record.{Record}
 use Rattle.recording.specs.declared.Content.{Content}
 use Rattle.recording.specs.declared.Content.the-variants as content
-use Rattle.recording.proofs.Rowed.{Stands, Small}
+use Rattle.recording.proofs.laws.Rowed.{Stands, Small}
 use Rattle.listing.specs.Lines.{decimal, hexCode, wayText, kindText, nameOr, nameFor, codeText, countsText, containerLine, noteLine, refusalLine, ending, contentLine, recordLine}
 use Rattle.listing.specs.Window.{lineRoom}
 use Rattle.listing.proofs.Numerals.{decimal-short, hex-length}

@@ -1,10 +1,10 @@
+pub mod laws
 pub mod Numerals
 pub mod Spelling
 pub mod Pieces
 pub mod Windows
 pub mod Cut
 pub mod Held
-pub mod Turning
 pub mod Fitting
 pub mod Whole
 pub mod Runs

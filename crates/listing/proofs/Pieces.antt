@@ -7,7 +7,7 @@ use Prim.Native.Nat.{ℕ, _+_, _≤_}
 use native.Mathlib.Omega.{arith}
 use lib.ListN.{length, length-append}
 use Rattle.layout.specs.Written.{Put, roomed}
-use Rattle.layout.proofs.Stored.{first, more}
+use Rattle.layout.proofs.laws.Stored.{first, more}
 use Rattle.recording.specs.declared.Record.{Record}
 use Rattle.recording.specs.declared.Content.the-variants as content
 use Rattle.wire.specs.declared.container.Container.{Container}

@@ -15,11 +15,11 @@ use lib.Dec.{leb, ltb, eqb, lit≤}
 use lib.ListN.{length, take, drop, length-append, length-drop, take-append-drop}
 use lib.Seq.{drop-append-le, drop-drop, drop-at, take-add, take-all, take-append-seam, length-take-le}
 use Rattle.layout.specs.Answer.{Answer, got, refused, pick}
-use Rattle.layout.proofs.Accepted.{Accepts}
-use Rattle.layout.proofs.Tidied.{zero-one}
+use Rattle.layout.proofs.laws.Accepted.{Accepts}
+use Rattle.layout.proofs.laws.Tidied.{zero-one}
 use Rattle.recording.specs.declared.Record.{Record}
 use Rattle.recording.specs.Record.{limit, recordOf}
-use Rattle.recording.proofs.Rowed.{Stands, record-stands}
+use Rattle.recording.proofs.laws.Rowed.{Stands, record-stands}
 use Rattle.listing.specs.declared.Tally.{Tally}
 use Rattle.listing.specs.declared.turn.Stage.the-variants as stage
 use Rattle.listing.specs.declared.turn.Next.the-variants as next

@@ -1,3 +1,3 @@
+pub mod laws
 pub mod Tables
-pub mod Spells
 pub mod Unique

@@ -2,7 +2,7 @@
 -- Assumes nothing.
 use mathlib.Core.Path.{_≡_, refl, ap}
 use Prim.Native.Nat.{ℕ}
-use Rattle.layout.proofs.Determined.{Tells}
+use Rattle.layout.proofs.laws.Determined.{Tells}
 use Rattle.names.specs.Says.{saysName}
 use Rattle.names.specs.declared.Name.the-variants as name
 

@@ -13,13 +13,13 @@ use lib.ListN.{length, take, drop, length-drop}
 use lib.Seq.{length-take-le}
 use Rattle.layout.specs.Answer.{Answer, got, refused, pick, after, means, endAt, bare, spanAt}
 use Rattle.layout.specs.Refusals.{TRAIL}
-use Rattle.layout.proofs.Make.{Spanned, there, short, spanned}
-use Rattle.layout.proofs.Reading.{drop-take}
+use Rattle.layout.proofs.laws.Make.{Spanned, there, short, spanned}
+use Rattle.layout.proofs.laws.Reading.{drop-take}
 use Rattle.wire.specs.Container.{containerAt}
 use Rattle.wire.specs.Tests.{_gives_else_, holds, fails, Otherwise, otherwise}
 use Rattle.wire.specs.Refused.{announced, kindIn, ContainerTests, containerIn, ContainerSays}
 use Rattle.wire.specs.declared.container.Container.{Container}
-use Rattle.wire.proofs.Judged.{one-test, one-otherwise, till, goes-on, enough, least-row, field-row, beyond, container-judged}
+use Rattle.wire.proofs.laws.Judged.{one-test, one-otherwise, till, goes-on, enough, least-row, field-row, beyond, container-judged}
 use Rattle.recording.specs.Record.{limit, isKind, begins, contentAt, bodyAt, recordOf, saysRecord}
 use Rattle.recording.specs.Refused.{bodyIn, recordIn, FilledSays, ContentSays, BodySays, RecordSays}
 use Rattle.recording.specs.declared.Content.the-variants as content

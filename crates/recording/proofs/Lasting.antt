@@ -14,18 +14,18 @@ use lib.Seq.{take-append-le}
 use Rattle.layout.specs.Answer.{Answer, got, refused, pick, after, spanAt, fieldAt}
 use Rattle.layout.specs.Bytes.{Bytes, number}
 use Rattle.layout.specs.Fault.{Ends}
-use Rattle.layout.proofs.Final.{Bytes-append, Bytes-zeros}
-use Rattle.layout.proofs.Make.{Spanned, there, short, spanned}
+use Rattle.layout.proofs.laws.Final.{Bytes-append, Bytes-zeros}
+use Rattle.layout.proofs.laws.Make.{Spanned, there, short, spanned}
 use Rattle.wire.specs.Refused.{announced, kindIn}
 use Rattle.wire.specs.Tests.{holds, fails, otherwise}
-use Rattle.wire.proofs.Judged.{one-test, one-otherwise, enough}
+use Rattle.wire.proofs.laws.Judged.{one-test, one-otherwise, enough}
 use Rattle.recording.specs.Record.{limit, isKind, recordOf, saysRecord}
 use Rattle.recording.specs.Refused.{BodySays, RecordSays, Cut, in-front, in-body, CutSays}
 use Rattle.recording.specs.Row.{orCut, shortOf, isCut}
 use Rattle.recording.specs.declared.ReadRecord.{ReadRecord}
 use Rattle.recording.specs.declared.Record.{Record}
 use Rattle.recording.proofs.Judged.{record-says}
-use Rattle.recording.proofs.Rowed.{uncut-same}
+use Rattle.recording.proofs.laws.Rowed.{uncut-same}
 
 -- ── whether a record is cut ──
 

@@ -1,5 +1,5 @@
+pub mod laws
 pub mod Recorded
-pub mod Rowed
 pub mod Unique
 pub mod Judged
 pub mod Lasting

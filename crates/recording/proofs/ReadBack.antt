@@ -15,17 +15,17 @@ use Rattle.layout.specs.Answer.{Told, Answer, got, refused, pick, after, means,
 use Rattle.layout.specs.Bytes.{bytes}
 use Rattle.layout.specs.Refusals.{TRAIL, RECORD, LONG}
 use Rattle.layout.specs.Written.{says, no, saidOf, Wrote}
-use Rattle.layout.proofs.Accepted.{accepted}
-use Rattle.layout.proofs.Numbers.{number-bytes}
-use Rattle.layout.proofs.Tidied.{zero-one}
+use Rattle.layout.proofs.laws.Accepted.{accepted}
+use Rattle.layout.proofs.laws.Numbers.{number-bytes}
+use Rattle.layout.proofs.laws.Tidied.{zero-one}
 use Rattle.wire.specs.Container.{containerAt}
 use Rattle.wire.specs.Tests.{_gives_else_, holds, fails, Otherwise, otherwise}
 use Rattle.wire.specs.Refused.{announced, kindIn, codeIn, numberIn, ContainerTests, containerIn, ContainerSays}
 use Rattle.wire.specs.Returned.{partOf}
 use Rattle.wire.specs.declared.container.Container.{Container}
-use Rattle.wire.proofs.Contained.{Boxed, container-stands}
-use Rattle.wire.proofs.Judged.{container-judged}
-use Rattle.wire.proofs.ReadBack.{whole}
+use Rattle.wire.proofs.laws.Contained.{Boxed, container-stands}
+use Rattle.wire.proofs.laws.Judged.{container-judged}
+use Rattle.wire.proofs.laws.ReadBack.{whole}
 use Rattle.recording.specs.Record.{limit, isKind, contentAt, recordOf, recordWord, recordSaid, saysRecord}
 use Rattle.recording.specs.Refused.{bodyIn, recordIn, ContentSays, RecordSays}
 use Rattle.recording.specs.Returned.{a-note, a-container, ReturnsRecord}

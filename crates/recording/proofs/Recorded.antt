@@ -12,11 +12,11 @@ use lib.Seq.{take-length}
 use Rattle.layout.specs.Answer.{Answer, Told, got, refused, bare, pick, after, means, endAt}
 use Rattle.layout.specs.Bytes.{bytes, number}
 use Rattle.layout.specs.Written.{says, no, saidOf, Put, roomed}
-use Rattle.layout.proofs.Accepted.{accepted, accepts-field}
-use Rattle.layout.proofs.Make.{span-there, span-short}
-use Rattle.layout.proofs.Numbers.{length-bytes}
-use Rattle.layout.proofs.Tidied.{zero-one}
-use Rattle.layout.proofs.Stored.{first, more}
+use Rattle.layout.proofs.laws.Accepted.{accepted, accepts-field}
+use Rattle.layout.proofs.laws.Make.{span-there, span-short}
+use Rattle.layout.proofs.laws.Numbers.{length-bytes}
+use Rattle.layout.proofs.laws.Tidied.{zero-one}
+use Rattle.layout.proofs.laws.Stored.{first, more}
 use Rattle.layout.specs.Refusals.{RECORD, LONG}
 use Rattle.wire.specs.Places.{numAt}
 use Rattle.recording.specs.declared.Content.{Content}

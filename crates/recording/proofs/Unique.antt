@@ -1,9 +1,9 @@
 -- What the answers of `recording` say determines them; so each promise allows one answer.
 -- Assumes nothing.
 use mathlib.Core.Path.{_≡_}
-use Rattle.layout.proofs.Determined.{Tells}
-use Rattle.layout.proofs.Tidied.{zero-one}
-use Rattle.wire.proofs.Unique.{cursor}
+use Rattle.layout.proofs.laws.Determined.{Tells}
+use Rattle.layout.proofs.laws.Tidied.{zero-one}
+use Rattle.wire.proofs.laws.Unique.{cursor}
 use Rattle.recording.specs.Record.{saysRecord}
 use Rattle.recording.specs.declared.ReadRecord.the-variants as readRecord
 

@@ -11,15 +11,15 @@ use lib.ListN.{length, take, drop, length-append, length-drop}
 use lib.Seq.{take-at, drop-at, drop-drop}
 use Rattle.layout.specs.Answer.{Answer, got, refused, means}
 use Rattle.layout.specs.Written.{Said, says, no, Wrote}
-use Rattle.layout.proofs.Tidied.{zero-one}
+use Rattle.layout.proofs.laws.Tidied.{zero-one}
 use Rattle.wire.specs.Container.{isKind, containerAt, containerWord, containerSaid, paramBytes, commandSaid, saysContainer}
 use Rattle.wire.specs.Returned.{Returns, partOf}
 use Rattle.wire.specs.declared.container.Command.{Command}
 use Rattle.wire.specs.declared.container.Container.{Container}
 use Rattle.wire.specs.declared.container.ReadContainer.{ReadContainer}
-use Rattle.wire.proofs.Contained.{container-length}
-use Rattle.wire.proofs.ReadBack.{Whole, whole, Due, due, command-due, container-there, payload-there}
-use Rattle.wire.proofs.ReadBack as wire
+use Rattle.wire.proofs.laws.Contained.{container-length}
+use Rattle.wire.proofs.laws.ReadBack.{Whole, whole, Due, due, command-due, container-there, payload-there}
+use Rattle.wire.proofs.laws.ReadBack as wire
 use Rattle.session.specs.Returned.{Replies}
 use Rattle.session.specs.Search.{noData, replyTo, answerIn, saysFound}
 use Rattle.session.specs.Transaction.{Turn, turn, together, withData, Makes}

@@ -11,13 +11,13 @@ use borrow.Author.Tests.{le-leb, lt-leb, eq-eqb, ne-eqb}
 use lib.Dec.{eqb}
 use lib.ListN.{length}
 use Rattle.layout.specs.Answer.{Told, Answer, got, refused, pick, after, means, bare}
-use Rattle.layout.proofs.Accepted.{accepted}
-use Rattle.layout.proofs.Reading.{follow, stop, means-means}
+use Rattle.layout.proofs.laws.Accepted.{accepted}
+use Rattle.layout.proofs.laws.Reading.{follow, stop, means-means}
 use Rattle.layout.specs.Refusals.{TID, NOPHASE}
 use Rattle.wire.specs.Container.{containerAt}
 use Rattle.wire.specs.declared.Part.{Part}
 use Rattle.wire.specs.declared.container.Container.{Container}
-use Rattle.wire.proofs.Contained.{Boxed, container-stands}
+use Rattle.wire.proofs.laws.Contained.{Boxed, container-stands}
 use Rattle.session.specs.Search.{behind, phaseAt, phasesFrom, newer, lastData, Reply, replyTo, replyOf}
 
 module _ (number : ℕ) (s : List ℕ) where

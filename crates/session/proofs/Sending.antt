@@ -12,8 +12,8 @@ use lib.ListN.{length, take, drop, length-append, length-drop, take-append-drop,
 use lib.Seq.{take-all, length-take-le, take-append-seam, drop-at, drop-drop}
 use Rattle.layout.specs.Answer.{Told, Answer, got, refused, bare, pick}
 use Rattle.layout.specs.Written.{Said, says, no, Wrote, answerOf, leftOf, Put, roomed}
-use Rattle.layout.proofs.Tidied.{zero-one}
-use Rattle.layout.proofs.Writing.{refusal, no-room, done, put-front, roomy}
+use Rattle.layout.proofs.laws.Tidied.{zero-one}
+use Rattle.layout.proofs.laws.Writing.{refusal, no-room, done, put-front, roomy}
 use Rattle.layout.specs.Refusals.{ROOM}
 use Rattle.session.specs.Transaction.{together}
 

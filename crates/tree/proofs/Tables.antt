@@ -13,7 +13,7 @@ use lib.ListN.{length, getD, take, drop, drop-of-length-le}
 use lib.Dec.{ltb, leb, eqb}
 use lib.Seq.{drop-cons}
 use Rattle.layout.specs.Answer.{Told, got, refused, bare, pick}
-use Rattle.layout.proofs.Reading.{follow, stop}
+use Rattle.layout.proofs.laws.Reading.{follow, stop}
 use Rattle.layout.specs.Refusals.{TABLE}
 use Rattle.tree.specs.Facts.{Ruled, Rising, Kept}
 use Rattle.tree.specs.Table.{Table, parent, kept, keptFrom, parentsOk, risesFrom, startOf, endOf, tableOk, nameAt, namesFrom, tableAt}

@@ -10,10 +10,10 @@ use lib.ListN.{length, replicate}
 use Rattle.layout.specs.Answer.{Told, Answer, got, refused, after, means, pick}
 use Rattle.layout.specs.Codec.{Codec, numbered, _and_, cons-write, repeated, through}
 use Rattle.layout.specs.Placed.{Inside, Placed, Lies, lies, nowhere}
-use Rattle.layout.proofs.Local.{repeated-local, alone}
-use Rattle.layout.proofs.Meets.{lies-after}
-use Rattle.layout.proofs.Reading.{means-means, means-same}
-use Rattle.layout.proofs.Tidied.{zero-one}
+use Rattle.layout.proofs.laws.Local.{repeated-local, alone}
+use Rattle.layout.proofs.laws.Meets.{lies-after}
+use Rattle.layout.proofs.laws.Reading.{means-means, means-same}
+use Rattle.layout.proofs.laws.Tidied.{zero-one}
 use Rattle.wire.specs.declared.property.PropInfo.{PropInfo}
 use Rattle.wire.specs.declared.property.Slot.{Slot}
 use Rattle.wire.specs.declared.property.Form as F

@@ -13,10 +13,10 @@ use Rattle.layout.specs.Answer.{Answer, got, refused, pick, after, endAt, badTe
 use Rattle.layout.specs.Bytes.{Bytes, number, cells}
 use Rattle.layout.specs.Fault.{first, second, Begins, Spoilt, Ends, BadText, Refuses}
 use Rattle.layout.specs.Grammar.{loose, empty, both, as′}
-use Rattle.layout.proofs.Decided.{refuses-exactly}
-use Rattle.layout.proofs.Final.{end-not-text, Bytes-append}
-use Rattle.layout.proofs.Meets.{reads-exactly}
-use Rattle.layout.proofs.Make.{Spanned, there, short, spanned, span-there}
+use Rattle.layout.proofs.laws.Decided.{refuses-exactly}
+use Rattle.layout.proofs.laws.Final.{end-not-text, Bytes-append}
+use Rattle.layout.proofs.laws.Meets.{reads-exactly}
+use Rattle.layout.proofs.laws.Make.{Spanned, there, short, spanned, span-there}
 use Rattle.wire.specs.declared.Part.{Part}
 use Rattle.wire.specs.Layout.{pairs, paired, Text, Shape, one, many, string, undef, shape, Val, Row}
 use Rattle.wire.specs.Codecs.{text}

@@ -17,11 +17,11 @@ use Rattle.layout.specs.Faithful.{Kept}
 use Rattle.layout.specs.Format.{Format, Sound, word}
 use Rattle.layout.specs.Grammar.{loose, Grammar, empty, both, lead, as′, Repeat}
 use Rattle.layout.specs.Placed.{Inside, Lies, lies}
-use Rattle.layout.proofs.Make.{repeat-format}
-use Rattle.layout.proofs.Numbers.{Bytes-take, Bytes-drop}
-use Rattle.layout.proofs.Tidied.{zero-one}
-use Rattle.layout.proofs.Words.{fits, part-there}
-use Rattle.layout.proofs.Meets.{kept}
+use Rattle.layout.proofs.laws.Make.{repeat-format}
+use Rattle.layout.proofs.laws.Numbers.{Bytes-take, Bytes-drop}
+use Rattle.layout.proofs.laws.Tidied.{zero-one}
+use Rattle.layout.proofs.laws.Words.{fits, part-there}
+use Rattle.layout.proofs.laws.Meets.{kept}
 use Rattle.wire.specs.declared.property.PropInfo.{PropInfo}
 use Rattle.wire.specs.declared.property.Slot.{Slot}
 use Rattle.wire.specs.declared.property.Form as F

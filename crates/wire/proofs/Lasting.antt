@@ -13,7 +13,7 @@ use Rattle.layout.specs.Answer.{Answer, got, refused, pick, after, bare}
 use Rattle.layout.specs.Bytes.{Bytes, number}
 use Rattle.layout.specs.Fault.{Stays, same, more, Final}
 use Rattle.layout.specs.Refusals.{SIZE}
-use Rattle.layout.proofs.Final.{Bytes-append, Bytes-zeros, part-stays, stays-after, field-final}
+use Rattle.layout.proofs.laws.Final.{Bytes-append, Bytes-zeros, part-stays, stays-after, field-final}
 use Rattle.wire.specs.Container.{isKind, headerRest, headerAt, containerAt, saysHeader, saysContainer}
 use Rattle.wire.specs.Tests.{_gives_else_, holds, fails, Otherwise, otherwise}
 use Rattle.wire.specs.Refused.{announced, HeaderTests, ContainerSays, Lasts, stays, cut, unfinished, Settled, accepted, no-kind, too-low}
@@ -21,7 +21,7 @@ use Rattle.wire.specs.declared.container.Header.{Header}
 use Rattle.wire.specs.declared.container.Container.{Container}
 use Rattle.wire.specs.declared.container.ReadHeader.{ReadHeader}
 use Rattle.wire.specs.declared.container.ReadContainer.{ReadContainer}
-use Rattle.wire.proofs.Judged.{enough, header-says, container-says}
+use Rattle.wire.proofs.laws.Judged.{enough, header-says, container-says}
 
 -- ── what stays ──
 

@@ -6,7 +6,7 @@ use lib.ListN.{length}
 use Rattle.layout.specs.Answer.{badText}
 use Rattle.layout.specs.Bytes.{bytes, number, cells}
 use Rattle.layout.specs.Codec.{numbered, spared, celled}
-use Rattle.layout.proofs.Local.{Local, nothing-local, field-local, and-local, leading-local, only-local, through-local, as-field-local}
+use Rattle.layout.proofs.laws.Local.{Local, nothing-local, field-local, and-local, leading-local, only-local, through-local, as-field-local}
 use Rattle.wire.specs.Layout.{width, paired, text-count, Shape, one, many, string, undef, shape}
 use Rattle.wire.specs.Codecs.{units, text, array, shaped, value}
 

@@ -10,9 +10,9 @@ use lib.ListN.{take, drop}
 use Rattle.layout.specs.Answer.{Told, Answer, got, refused, after, pick, spanAt, fieldAt}
 use Rattle.layout.specs.Bytes.{number}
 use Rattle.layout.specs.Codec.{repeated}
-use Rattle.layout.proofs.Local.{repeated-local, alone}
-use Rattle.layout.proofs.Make.{Spanned, short, spanned, there}
-use Rattle.layout.proofs.Tidied.{zero-one}
+use Rattle.layout.proofs.laws.Local.{repeated-local, alone}
+use Rattle.layout.proofs.laws.Make.{Spanned, short, spanned, there}
+use Rattle.layout.proofs.laws.Tidied.{zero-one}
 use Rattle.wire.specs.declared.property.PropInfo.{PropInfo}
 use Rattle.wire.specs.declared.property.Form as F
 use Rattle.wire.specs.declared.property.Form.the-variants as code

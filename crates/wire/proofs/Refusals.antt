@@ -7,9 +7,9 @@ use Prim.Native.Nat.{ℕ, zero, suc}
 use lib.ListN.{drop}
 use Rattle.layout.specs.Bytes.{Bytes}
 use Rattle.layout.specs.Fault.{Clean, first, Refuses, Decides, Faulted}
-use Rattle.layout.proofs.Decided.{decides, refuses-exactly}
-use Rattle.layout.proofs.Final.{nothing-faults, number-faults, cells-faults, then-faults, lead-faults, such-faults, as-faults, one-faults, repeat-faults, count-faults, spare-faults, same-faults, all-clean}
-use Rattle.layout.proofs.Make.{number-format, as-format, cells-format}
+use Rattle.layout.proofs.laws.Decided.{decides, refuses-exactly}
+use Rattle.layout.proofs.laws.Final.{nothing-faults, number-faults, cells-faults, then-faults, lead-faults, such-faults, as-faults, one-faults, repeat-faults, count-faults, spare-faults, same-faults, all-clean}
+use Rattle.layout.proofs.laws.Make.{number-format, as-format, cells-format}
 use Rattle.wire.specs.Layout.{width, paired, text-count, Text, Shape, one, many, string, undef, shape, Value, Row, device, object, storage, form-byte, list, no-form, reading, Property}
 use Rattle.wire.specs.Codecs.{all-units, units, text, array, shaped, value, row, three, form-write, formed, form, fields, property}
 use Rattle.wire.specs.Faults.{UnitsFault, TextFault, ShapedFault, ValueFault, RowFault, FormedFault, FormFault, PropertyFault}

@@ -10,9 +10,9 @@ use Rattle.layout.specs.Bytes.{Bytes, bytes}
 use Rattle.layout.specs.Codec.{Codec, repeated}
 use Rattle.layout.specs.Grammar.{loose, empty, _then_, lead, as′, Counted}
 use Rattle.layout.specs.Written.{says, no, saidOf, tidied, took, spelling}
-use Rattle.layout.proofs.Make.{num-size}
-use Rattle.layout.proofs.Numbers.{length-bytes}
-use Rattle.layout.proofs.Tidied.{Shrinks, nothing-shrinks, number-shrinks, then-shrinks, as-shrinks, count-shrinks, shrunk, zero-one}
+use Rattle.layout.proofs.laws.Make.{num-size}
+use Rattle.layout.proofs.laws.Numbers.{length-bytes}
+use Rattle.layout.proofs.laws.Tidied.{Shrinks, nothing-shrinks, number-shrinks, then-shrinks, as-shrinks, count-shrinks, shrunk, zero-one}
 use borrow.Author.Tests.{ne-eqb}
 use lib.Dec.{eqb}
 use Rattle.wire.specs.declared.property.PropInfo.{PropInfo}

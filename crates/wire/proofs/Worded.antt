@@ -11,11 +11,11 @@ use Rattle.layout.specs.Bytes.{Bytes, cells}
 use Rattle.layout.specs.Codec.{Codec}
 use Rattle.layout.specs.Format.{Format, Sound, word}
 use Rattle.layout.specs.Grammar.{loose, Grammar, Number, Repeat}
-use Rattle.layout.proofs.Make.{cells-all}
-use Rattle.layout.proofs.Numbers.{Bytes-take, Bytes-drop}
-use Rattle.layout.proofs.Reading.{cells-take}
-use Rattle.layout.proofs.Tidied.{zero-one}
-use Rattle.layout.proofs.Words.{fits}
+use Rattle.layout.proofs.laws.Make.{cells-all}
+use Rattle.layout.proofs.laws.Numbers.{Bytes-take, Bytes-drop}
+use Rattle.layout.proofs.laws.Reading.{cells-take}
+use Rattle.layout.proofs.laws.Tidied.{zero-one}
+use Rattle.layout.proofs.laws.Words.{fits}
 use Rattle.wire.specs.declared.Part.{Part}
 use Rattle.wire.specs.declared.property.Slot.{Slot}
 use Rattle.wire.specs.Layout.{meaning, width, Shape, one, many, string, undef, shape, Val, Value}

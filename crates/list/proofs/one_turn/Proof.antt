@@ -1,6 +1,6 @@
 -- `list::one_turn`: a turn's text stands in the output, and what is held in the window. Assumes nothing.
 use denote.Ref.{now}
-use Rattle.listing.proofs.Turning.{text-within, held-within}
+use Rattle.listing.proofs.laws.Turning.{text-within, held-within}
 use borrow.Author.Needs.{needs}
 use Rattle.list.proofs.one_turn.Statement.{statement}
 use Rattle.list.proofs.one_turn.Tie as tie

@@ -6,11 +6,11 @@ use native.Mathlib.Omega.{arith}
 use denote.Ref.{now}
 use lib.ListN.{length, drop, length-drop}
 use Rattle.layout.specs.Answer.{got, refused}
-use Rattle.layout.proofs.Accepted.{accepted}
-use Rattle.layout.proofs.Numbers.{bytes-of, Bytes-drop}
-use Rattle.layout.proofs.Reading.{heard}
+use Rattle.layout.proofs.laws.Accepted.{accepted}
+use Rattle.layout.proofs.laws.Numbers.{bytes-of, Bytes-drop}
+use Rattle.layout.proofs.laws.Reading.{heard}
 use Rattle.recording.specs.Record.{recordOf, saysRecord}
-use Rattle.recording.proofs.Rowed.{record-stands, record-small}
+use Rattle.recording.proofs.laws.Rowed.{record-stands, record-small}
 use Rattle.listing.specs.Lines.{recordLine}
 use Rattle.listing.specs.Window.{lineRoom, waits, windowOf}
 use Rattle.listing.proofs.Cut.{whole-ready}

@@ -5,7 +5,7 @@ use borrow.Author.Needs.{needs}
 use lib.ListN.{length}
 use Rattle.names.specs.Names.{responses, responsePlace}
 use Rattle.names.proofs.Tables.{responseStarts, responseLengths, response-ruled}
-use Rattle.names.proofs.Spells.{before-table, past-table, in-table}
+use Rattle.names.proofs.laws.Spells.{before-table, past-table, in-table}
 use Rattle.names.proofs.response_name.Statement.{statement}
 use Rattle.names.proofs.response_name.Tie as tie
 

@@ -4,7 +4,7 @@ use native.Mathlib.Omega.{arith}
 use borrow.Author.Tests.{not-true, not-false}
 use denote.Ref.{now}
 use lib.Seq.{length-take-le}
-use Rattle.layout.proofs.Reading.{heard, meant, not-meant}
+use Rattle.layout.proofs.laws.Reading.{heard, meant, not-meant}
 use Rattle.recording.specs.Record.{saysContent}
 use Rattle.recording.proofs.Recorded.{long-enough, body-13, body-14, body-short, body-there}
 use borrow.Author.Needs.{needs}

@@ -1,7 +1,7 @@
 -- `recording::is_cut`: cut within length and kind, or else in the body. Assumes nothing.
 use native.Mathlib.Omega.{arith}
 use denote.Ref.{now}
-use Rattle.layout.proofs.Reading.{heard}
+use Rattle.layout.proofs.laws.Reading.{heard}
 use Rattle.wire.specs.Says.{saysU16, saysU32}
 use Rattle.recording.specs.Row.{isCut}
 use Rattle.recording.proofs.Recorded.{field-ends, past-cut, at-cut}

@@ -1,5 +1,5 @@
 -- `recording::read_record`: length and kind, then the body. Assumes nothing.
-use Rattle.layout.proofs.Reading.{heard, follow, stop}
+use Rattle.layout.proofs.laws.Reading.{heard, follow, stop}
 use Rattle.wire.specs.Says.{saysU16, saysU32}
 use native.Mathlib.Omega.{arith}
 use denote.Ref.{now}

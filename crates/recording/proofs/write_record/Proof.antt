@@ -2,8 +2,8 @@
 use mathlib.Core.Path.{sym, _∙_}
 use borrow.Author.Tests.{not-true, not-false}
 use denote.Ref.{now}
-use Rattle.layout.proofs.Reading.{heard}
-use Rattle.layout.proofs.Writing.{refusal}
+use Rattle.layout.proofs.laws.Reading.{heard}
+use Rattle.layout.proofs.laws.Writing.{refusal}
 use Rattle.recording.specs.Record.{saysContent}
 use Rattle.recording.proofs.Recorded.{said-13, said-14, said-refused, said-bytes}
 use borrow.Author.Needs.{needs}

@@ -1,9 +1,9 @@
 -- `abi::dataset::give_object`: the record's row, or its refusal. Assumes nothing.
 use borrow.Author.Needs.{needs}
-use Rattle.layout.proofs.Reading.{heard}
+use Rattle.layout.proofs.laws.Reading.{heard}
 use Rattle.wire.specs.Object.{saysObject}
 use Rattle.abi.specs.Rows.{fieldsRow}
-use Rattle.abi.proofs.Answers.{row-given, row-refused}
+use Rattle.abi.proofs.laws.Answers.{row-given, row-refused}
 use Rattle.abi.proofs.dataset.give_object.Statement.{statement}
 use Rattle.abi.proofs.dataset.give_object.Tie as tie
 

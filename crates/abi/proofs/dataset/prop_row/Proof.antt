@@ -2,7 +2,7 @@
 use borrow.Author.Needs.{needs}
 use mathlib.Core.Path.{_∙_, ap}
 use lib.ListN.{length}
-use Rattle.abi.proofs.Answers.{spread, form-long}
+use Rattle.abi.proofs.laws.Answers.{spread, form-long}
 use Rattle.abi.proofs.dataset.prop_row.Statement.{statement}
 use Rattle.abi.proofs.dataset.prop_row.Tie as tie
 

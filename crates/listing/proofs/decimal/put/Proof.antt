@@ -5,7 +5,7 @@ use native.Mathlib.Omega.{arith}
 use denote.Ref.{now}
 use lib.ListN.{length}
 use Rattle.layout.specs.Written.{put}
-use Rattle.layout.proofs.Writing.{in-room, out-of-room, nothing}
+use Rattle.layout.proofs.laws.Writing.{in-room, out-of-room, nothing}
 use Rattle.listing.specs.Lines.{decimal}
 use Rattle.listing.proofs.Numerals.{decimal-is, decimal-length}
 use borrow.Author.Needs.{needs}

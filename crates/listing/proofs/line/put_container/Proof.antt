@@ -2,8 +2,8 @@
 use native.Mathlib.Omega.{arith}
 use lib.ListN.{length, length-append}
 use mathlib.Core.List.{_++_}
-use Rattle.layout.proofs.Stored.{room-left}
-use Rattle.layout.proofs.Writing.{then}
+use Rattle.layout.proofs.laws.Stored.{room-left}
+use Rattle.layout.proofs.laws.Writing.{then}
 use Rattle.listing.specs.Lines.{decimal, wayText, kindText, codeText, countsText, containerLine}
 use Rattle.listing.proofs.Pieces.{row3, container-parts}
 use borrow.Author.Needs.{needs}

@@ -4,7 +4,7 @@ use native.Mathlib.Omega.{arith}
 use denote.Ref.{now}
 use lib.ListN.{length}
 use Rattle.listing.specs.Turn.{size}
-use Rattle.listing.proofs.Turning.{turn-closes, turn-goes, turn-ends, turn-asks, used-most}
+use Rattle.listing.proofs.laws.Turning.{turn-closes, turn-goes, turn-ends, turn-asks, used-most}
 use borrow.Author.Needs.{needs}
 use Rattle.listing.proofs.turn.lines_turn.Statement.{statement}
 use Rattle.listing.proofs.turn.lines_turn.Tie as tie

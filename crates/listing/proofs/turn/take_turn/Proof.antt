@@ -3,7 +3,7 @@ use mathlib.Core.Path.{refl}
 use native.Mathlib.Omega.{arith}
 use Rattle.listing.specs.Lines.{heading}
 use Rattle.listing.specs.Turn.{linesTurn, turnOf}
-use Rattle.listing.proofs.Turning.{put-fronted}
+use Rattle.listing.proofs.laws.Turning.{put-fronted}
 use borrow.Author.Needs.{needs}
 use Rattle.listing.proofs.turn.take_turn.Statement.{statement}
 use Rattle.listing.proofs.turn.take_turn.Tie as tie

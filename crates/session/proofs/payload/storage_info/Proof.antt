@@ -1,7 +1,7 @@
 -- `session::payload::storage_info`: read, then the end asked for. Assumes nothing.
 use borrow.Author.Needs.{needs}
 use denote.Ref.{now}
-use Rattle.layout.proofs.Reading.{heard}
+use Rattle.layout.proofs.laws.Reading.{heard}
 use Rattle.wire.specs.Says.{saysSpan}
 use Rattle.wire.specs.Layout.{storage}
 use Rattle.wire.specs.Places.{rowAt}

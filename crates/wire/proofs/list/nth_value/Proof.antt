@@ -1,6 +1,6 @@
 -- `wire::list::nth_value`: past n values, then the value there. Assumes nothing.
 use denote.Ref.{now}
-use Rattle.layout.proofs.Reading.{heard, follow, stop}
+use Rattle.layout.proofs.laws.Reading.{heard, follow, stop}
 use Rattle.wire.specs.List.{nthValue}
 use Rattle.wire.specs.Says.{saysSpan}
 use Rattle.wire.proofs.Passed.{values-got, values-refused}

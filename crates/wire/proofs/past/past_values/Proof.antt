@@ -1,7 +1,7 @@
 -- `wire::past::past_values`: by the type's shape; numbers are one span. Assumes nothing.
 use mathlib.Core.Path.{_∙_, sym}
 use denote.Ref.{now}
-use Rattle.layout.proofs.Reading.{heard}
+use Rattle.layout.proofs.laws.Reading.{heard}
 use Rattle.wire.specs.Says.{saysKind, saysShape}
 use Rattle.wire.proofs.Passed.{passed-numbers, passed-undef}
 use borrow.Author.Needs.{needs}

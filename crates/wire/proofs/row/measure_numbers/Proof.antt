@@ -3,7 +3,7 @@ use mathlib.Core.Path.{refl, _∙_}
 use Prim.Native.Nat.{_*_}
 use native.Mathlib.Omega.{arith}
 use denote.Ref.{now}
-use Rattle.layout.proofs.Reading.{heard, follow, stop, span-within}
+use Rattle.layout.proofs.laws.Reading.{heard, follow, stop, span-within}
 use Rattle.wire.specs.Says.{saysSpan}
 use borrow.Author.Needs.{needs}
 use Rattle.wire.proofs.row.measure_numbers.Statement.{statement}

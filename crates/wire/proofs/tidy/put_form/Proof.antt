@@ -1,7 +1,7 @@
 -- `wire::tidy::put_form`: by the form. Assumes nothing.
 use native.Mathlib.Omega.{arith}
 use Rattle.layout.specs.Bytes.{bytes}
-use Rattle.layout.proofs.Writing.{roomy}
+use Rattle.layout.proofs.laws.Writing.{roomy}
 use Rattle.wire.specs.TidyProperty.{formWord}
 use borrow.Author.Needs.{needs}
 use Rattle.wire.proofs.tidy.put_form.Statement.{statement}

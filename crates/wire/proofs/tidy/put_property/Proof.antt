@@ -3,7 +3,7 @@ use mathlib.Core.Path.{ap, _∙_}
 use native.Mathlib.Omega.{arith}
 use denote.Ref.{now}
 use lib.ListN.{length, length-append}
-use Rattle.layout.proofs.Writing.{then, long}
+use Rattle.layout.proofs.laws.Writing.{then, long}
 use Rattle.wire.proofs.TidyWords.{property-word, parts-size, header-size}
 use borrow.Author.Needs.{needs}
 use Rattle.wire.proofs.tidy.put_property.Statement.{statement}

@@ -1,6 +1,6 @@
 -- `wire::run::Run::values`: measured where the run goes on, passed by where it has stopped. Assumes nothing.
 use denote.Ref.{now}
-use Rattle.layout.proofs.Reading.{heard}
+use Rattle.layout.proofs.laws.Reading.{heard}
 use Rattle.wire.specs.Says.{saysSpan}
 use Rattle.wire.proofs.Passed.{values-got, values-refused, values-ahead}
 use Rattle.wire.proofs.Runs.{read, broke, passed}
