@@ -7,9 +7,9 @@ const FILLING: u8 = 0xa5;
 
 const LOST: usize = 0xFFFF_FFFF_FFFF_FFFF;
 
-// The one function that writes: whether all was written.
+// The one function that writes: whether all was written. What failed is told.
 fn write(s: &[u8]) -> bool {
-    io::write_all(1, s)
+    stream::write_all(1, s, b"ask: writing standard output")
 }
 
 pub fn is_lost(text: &[u8], at: usize) -> bool {

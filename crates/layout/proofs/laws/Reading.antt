@@ -112,7 +112,7 @@ number-turn s at w k v b hk hw hs hv hb =
     let more : w - (k - 1) ≡ suc (w - k) = omega arith in
     let next : suc (at + (k - 1)) ≡ at + k = omega arith in
     let within : at + (k - 1) < length s = omega arith in
-    rw (more, number-front, next) (omega arith)
+    rw (more, number-front s (at + (k - 1)) (w - k) within, next) (omega arith)
 
 -- and the number stays below its power
 pub below-next : (w k v b : ℕ) → 0 < k → k ≤ w → v < 256 ^ (w - k) → b < 256 → v * 256 + b < 256 ^ (w - (k - 1))
