@@ -3,7 +3,8 @@
     python3 -m tools.promises            writes the column
     python3 -m tools.promises --check    writes nothing, and fails where it is another; where a public function of a library crate has no row, or a
                                          row no function; where an edit stands in no row or an edit of the gate in no section; where what an edit
-                                         is to change does not stand in its file exactly once. Tells which rows have fewer than two edits
+                                         is to change does not stand in its file exactly once. Tells which rows have fewer than two edits.
+                                         A crate that the page names as `CRATE::*` has no rows
 """
 import collections
 import os
@@ -102,8 +103,9 @@ def faults_of_rows(rows, public, tried):
 def main(words):
     if words not in ([], ['--check']):
         sys.exit(__doc__)
-    public = {name for crate in libraries() for name in functions(crate)}
     page = edits.read(PAGE)
+    rowless = set(re.findall(r'`(\w+)::\*`', page))
+    public = {name for crate in libraries() if crate not in rowless for name in functions(crate)}
     rows = [function for function in map(function_of, page.splitlines()) if function]
     try:
         tried, faults = edits_by_function(public)
