@@ -1,6 +1,6 @@
 """Judges a program that lists recordings, by the model, on recordings of several windows and on input that comes in pieces.
 
-    examples/pieces.py COMMAND ..
+    python3 -m examples.pieces COMMAND ..
 
 COMMAND reads a recording from standard input and writes its listing. It is given recordings that are longer than its
 window, with records across the edge of what is read at once: as a file, and through a pipe in pieces of 1, 2, 3, 100
@@ -10,7 +10,6 @@ printed, and last `COUNT compared, N differ`.
 
 import fcntl
 import os
-import pathlib
 import struct
 import subprocess
 import sys
@@ -18,12 +17,9 @@ import tempfile
 import termios
 import time
 
-FOLDER = pathlib.Path(__file__).resolve().parent
-sys.path[:0] = [str(FOLDER), str(FOLDER.parent / "model")]
-
-import listing
-from make import container_line, record
-from recording import MOST_BODY, NOTE, RECORD_HEADER
+from examples.make import container_line, record
+from model import listing
+from model.recording import MOST_BODY, NOTE, RECORD_HEADER
 
 WINDOW = 65536
 LONGEST = RECORD_HEADER + MOST_BODY
