@@ -1,4 +1,4 @@
--- What `read_record` and `is_cut` answer, said with no reader: they meet specs/Refused, which determines the answer. A field is there or it is not; then its test holds
+-- What `read_record` answers, said with no reader: it meets specs/Refused, which determines the answer. A field is there or it is not; then its test holds
 -- or it does not; and the body's container is judged as every container is.
 -- Assumes nothing.
 use mathlib.Core.Path.{_≡_, refl, _∙_}

@@ -4,13 +4,13 @@
 use mathlib.Core.Path.{_≡_, refl, sym, ap, _∙_}
 use mathlib.Core.Bool.{Bool, true, false}
 use mathlib.Core.Logic.{_⊎_, inl, inr}
-use mathlib.Core.List.{List, _++_}
-use Prim.Native.Nat.{ℕ, _+_, _-_, _≤_, _<_}
+use mathlib.Core.List.{List, [], _++_, append-nil}
+use Prim.Native.Nat.{ℕ, _+_, _-_, _^_, _≤_, _<_}
 use native.Mathlib.Omega.{arith}
 use borrow.Author.Tests.{leb-true, eqb-true, eqb-false}
 use lib.Dec.{leb, eqb}
 use lib.ListN.{length, take, drop, length-append, length-drop}
-use lib.Seq.{take-append-seam, drop-append-le}
+use lib.Seq.{take-append-seam, take-at, take-all, drop-append-le}
 use Rattle.layout.specs.Answer.{Told, Answer, got, refused, pick, after, means, bare}
 use Rattle.layout.specs.Bytes.{bytes}
 use Rattle.layout.specs.Refusals.{TRAIL, RECORD, LONG}
@@ -18,17 +18,18 @@ use Rattle.layout.specs.Written.{says, no, saidOf, Wrote}
 use Rattle.layout.proofs.laws.Accepted.{accepted}
 use Rattle.layout.proofs.laws.Numbers.{number-bytes}
 use Rattle.layout.proofs.laws.Tidied.{zero-one}
-use Rattle.wire.specs.Container.{containerAt}
+use Rattle.wire.specs.Container.{containerAt, containerWord, containerSaid}
 use Rattle.wire.specs.Tests.{_gives_else_, holds, fails, Otherwise, otherwise}
 use Rattle.wire.specs.Refused.{announced, kindIn, codeIn, numberIn, ContainerTests, containerIn, ContainerSays}
 use Rattle.wire.specs.Returned.{partOf}
 use Rattle.wire.specs.declared.container.Container.{Container}
-use Rattle.wire.proofs.laws.Contained.{Boxed, container-stands}
+use Rattle.wire.proofs.laws.Contained.{Boxed, container-stands, container-length}
 use Rattle.wire.proofs.laws.Judged.{container-judged}
-use Rattle.wire.proofs.laws.ReadBack.{whole}
+use Rattle.wire.proofs.laws.ReadBack.{Whole, whole}
+use Rattle.wire.proofs.laws.ReadBack as wire
 use Rattle.recording.specs.Record.{limit, isKind, contentAt, recordOf, recordWord, recordSaid, saysRecord}
 use Rattle.recording.specs.Refused.{bodyIn, recordIn, ContentSays, RecordSays}
-use Rattle.recording.specs.Returned.{a-note, a-container, ReturnsRecord}
+use Rattle.recording.specs.Returned.{Held, a-note, a-container, ReturnsRecord, ReturnsContainer}
 use Rattle.recording.specs.declared.Content.{Content}
 use Rattle.recording.specs.declared.Content.the-variants as content
 use Rattle.recording.specs.declared.Record.{Record}
@@ -196,3 +197,58 @@ record-returns kind body old new n promised r e =
     let stands : new ≡ recordWord kind body ++ drop (length (w .bs)) old = w .left ∙ ap (λ v. v ++ drop (length (w .bs)) old) (d .word) in
     let read : saysRecord r ≡ recordOf (recordWord kind body ++ drop (length (w .bs)) old) = rw stands at e in
     rw stands (returned kind body (drop (length (w .bs)) old) (d .low) (d .high) (d .small) (saysRecord r) n read (w .count ∙ ap length (d .word) ∙ record-length kind body) (d .taken))
+
+-- ── a container that was written, recorded ──
+
+module _ (kind code tid : ℕ) (payload old written : List ℕ) (m : ℕ) (code-fits : code < 256 ^ 2) (tid-fits : tid < 256 ^ 4) (promised : Wrote (containerSaid kind code tid payload) old (got tt m) written) where
+  wrote : Whole (containerSaid kind code tid payload) old m written
+  wrote = whole promised
+
+  was-due : wire.Due kind code tid payload (wrote .bs)
+  was-due = wire.due kind code tid payload (wrote .bs) (wrote .due)
+
+  box : List ℕ
+  box = take m written
+
+  box-stands : box ≡ containerWord kind code tid payload ++ []
+  unfolding box
+  box-stands = ap (take m) (wrote .left) ∙ take-at (wrote .bs) (drop (length (wrote .bs)) old) m (sym (wrote .count)) ∙ was-due .word ∙ sym (append-nil (containerWord kind code tid payload))
+
+  -- its numbers and its payload are in its bytes
+  numbers : containerIn 0 box ≡ record { kind = kind; code = code; number = tid; payload = record { start = 0 + 12; count = length payload } }
+  numbers = same refl (behind-tests box refl (rw there at (container-judged box 0)))
+    where
+      there : containerAt box 0 ≡ got (record { kind = kind; code = code; number = tid; payload = record { start = 0 + 12; count = length payload } }) (0 + (12 + length payload))
+      there = wire.container-there kind code tid payload [] (was-due .known) code-fits tid-fits (was-due .small) box 0 box-stands
+
+      same : {y : Answer Container} {a b : Container} {k n : ℕ} → y ≡ got b n → Otherwise (got a k) y → a ≡ b
+      same e otherwise = cc
+
+  payload-is : drop 12 box ≡ payload
+  payload-is =
+      let long : length box ≡ 12 + length payload = ap length box-stands ∙ ap length (append-nil (containerWord kind code tid payload)) ∙ container-length kind code tid payload in
+      sym (take-all (length payload) (drop 12 box) (omega (arith, length-drop 12 box)))
+      ∙ wire.payload-there kind code tid payload [] (was-due .known) code-fits tid-fits (was-due .small) box 0 box-stands
+
+  pub container-recorded : (way : ℕ) (old′ new : List ℕ) (n : ℕ) → (way ≡ 3 → ⊥) → Wrote (recordSaid way (take m written)) old′ (got tt n) new →
+      (r : ReadRecord) → saysRecord r ≡ recordOf new → ReturnsContainer way kind code tid payload new n (saysRecord r)
+  unfolding box
+  container-recorded way old′ new n no-note recorded r e =
+      let b = record-returns way (take m written) old′ new n recorded r e in
+      let h = holding (b .found .content) (b .held) in
+      record {
+        found = b .found;
+        container = h .0;
+        answer = b .answer;
+        same-way = b .same-kind;
+        content = h .1 .0;
+        same-kind = h .1 .1 ∙ ap (λ x. x .kind) numbers;
+        same-code = h .1 .2 ∙ ap (λ x. x .code) numbers;
+        same-number = h .1 .3 ∙ ap (λ x. x .number) numbers;
+        holds = h .1 .4 ∙ payload-is;
+      }
+    where
+      holding : (c : Content) → Held (take m written) new way c →
+          (x : Container) × ((c ≡ content.Holds x) × (x .kind ≡ kindIn (take m written)) × (x .code ≡ codeIn (take m written)) × (x .number ≡ numberIn (take m written)) × (partOf new (x .payload) ≡ drop 12 (take m written)))
+      holding c (a-note three) = absurd (no-note three)
+      holding c (a-container {x = x} other k l t p) = (x, (refl, k, l, t, p))

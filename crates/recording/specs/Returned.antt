@@ -25,3 +25,15 @@ pub record ReturnsRecord (kind : ℕ) (body s : List ℕ) (n : ℕ) (x : Answer 
   pub same-kind : found .kind ≡ kind
   pub holds : partOf s (found .body) ≡ body
   pub held : Held body s kind (found .content)
+
+-- a record whose body is a container that was written: its container is accepted with that kind, code and number, and with a payload whose bytes are those
+pub record ReturnsContainer (way kind code number : ℕ) (payload s : List ℕ) (n : ℕ) (x : Answer Record) : Type 0 where
+  pub found : Record
+  pub container : Container
+  pub answer : x ≡ got found n
+  pub same-way : found .kind ≡ way
+  pub content : found .content ≡ content.Holds container
+  pub same-kind : container .kind ≡ kind
+  pub same-code : container .code ≡ code
+  pub same-number : container .number ≡ number
+  pub holds : partOf s (container .payload) ≡ payload
