@@ -105,6 +105,8 @@ fn list_from(s: &[u8], last: bool, start: u64, count: u64, names: &[u8], out: &m
 
 // Lists the whole records of a window of the recording, as long as 128 bytes of room are left. `last` says that the input ends with the
 // window: then a record that is cut is refused, and else it waits for more bytes.
+// With less than 128 bytes of room it lists nothing and refuses nothing: room that is used up is how a long listing goes on, in the next
+// call's output, and a caller with room for no line at all sees that nothing was used.
 pub fn list_window(s: &[u8], last: bool, from: Tally, out: &mut [u8]) -> Listed
     ensures { λ r. ⌜ Lists (windowOf last (length (now (out .entry))) (now (s .entry)) (from .place) (from .records)) (now (out .entry)) r (now (out .exit)) ⌝ }
 {

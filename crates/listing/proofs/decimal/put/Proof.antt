@@ -1,46 +1,32 @@
--- `listing::decimal::put`: the digits that were counted are the decimal, whole where it has room. Assumes nothing.
-use mathlib.Core.Path.{ap, _∙_}
-use Prim.Native.Nat.{_+_}
+-- `listing::decimal::put`: a short number with room enough is written whole; any other is counted first. Assumes nothing.
 use native.Mathlib.Omega.{arith}
 use denote.Ref.{now}
-use lib.ListN.{length}
-use Rattle.layout.specs.Written.{put}
-use Rattle.layout.proofs.laws.Writing.{in-room, out-of-room, nothing}
+use Rattle.layout.proofs.laws.Writing.{in-room}
 use Rattle.listing.specs.Lines.{decimal}
-use Rattle.listing.proofs.Numerals.{decimal-is, decimal-length}
 use borrow.Author.Needs.{needs}
 use Rattle.listing.proofs.decimal.put.Statement.{statement}
 use Rattle.listing.proofs.decimal.put.Tie as tie
 
-returns : tie.Need-returns
-returns c =
-    let k = c .before .count in
-    let a = c .before .before .before .args in
-    rw (out-of-room (now (a .out)) (a .at) (decimal (a .n)) (omega (arith, decimal-length (a .n) (k .result) (k .ensures), c .if1 .taken))) nothing
-
-returns-2 : tie.Need-returns-2
-returns-2 c =
-    let k = c .before .before .count in
-    let a = c .before .before .before .before .args in
-    rw (out-of-room (now (a .out)) (a .at) (decimal (a .n)) (omega (arith, decimal-length (a .n) (k .result) (k .ensures), k .ensures .0, c .before .if1 .left, c .if2 .taken))) nothing
-
-returns-3 : tie.Need-returns-3
-returns-3 c =
-    let k = c .before .before .before .before .before .before .count in
+returns-4 : tie.Need-returns-4
+returns-4 c =
+    let p = c .before .before .put-short .ensures in
     let a = c .before .before .before .before .before .before .before .before .args in
-    let l = decimal-length (a .n) (k .result) (k .ensures) in
-    rw (in-room (now (a .out)) (a .at) (decimal (a .n)) (omega (arith, c .before .before .before .before .before .if1 .left, c .before .before .before .before .if2 .left)))
-    (record { bytes = c .before .before .spell .ensures ∙ ap (put (now (a .out)) (a .at)) (decimal-is (a .n) (k .result) (k .ensures)); place = omega arith })
+    rw (in-room (now (a .out)) (a .at) (decimal (a .n)) (omega (arith, p .1, p .0 .place, c .before .before .before .before .before .if2 .left, c .before .before .before .before .if3 .left))) (p .0)
 
 pub put-spec : {M : Type 1} → statement M
 put-spec =
     tie.close
     (tie.spec
     (λ c κs. search needs)
-    returns
     (λ c. search needs)
-    returns-2
+    (λ c. search needs)
     (λ c κs. search needs)
     (λ c. search needs)
     (λ c. search needs)
-    returns-3)
+    (λ c. search needs)
+    (λ c κs. search needs)
+    (λ c. search needs)
+    (λ c. search needs)
+    (λ c κs. search needs)
+    (λ c. search needs)
+    returns-4)
