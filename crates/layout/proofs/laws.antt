@@ -11,6 +11,7 @@ pub mod Stored
 pub mod Single
 pub mod Determined
 pub mod Tidied
+pub mod Did
 pub mod Local
 pub mod Final
 pub mod Decided

@@ -16,6 +16,7 @@ use Rattle.layout.specs.Bytes.{bytes}
 use Rattle.layout.specs.Refusals.{TRAIL, RECORD, LONG}
 use Rattle.layout.specs.Written.{says, no, saidOf, Wrote}
 use Rattle.layout.proofs.laws.Accepted.{accepted}
+use Rattle.layout.proofs.laws.Did.{Whole, whole}
 use Rattle.layout.proofs.laws.Numbers.{number-bytes}
 use Rattle.layout.proofs.laws.Tidied.{zero-one}
 use Rattle.wire.specs.Container.{containerAt, containerWord, containerSaid}
@@ -25,7 +26,6 @@ use Rattle.wire.specs.Returned.{partOf}
 use Rattle.wire.specs.declared.container.Container.{Container}
 use Rattle.wire.proofs.laws.Contained.{Boxed, container-stands, container-length}
 use Rattle.wire.proofs.laws.Judged.{container-judged}
-use Rattle.wire.proofs.laws.ReadBack.{Whole, whole}
 use Rattle.wire.proofs.laws.ReadBack as wire
 use Rattle.recording.specs.Record.{limit, isKind, contentAt, recordOf, recordWord, recordSaid, saysRecord}
 use Rattle.recording.specs.Refused.{bodyIn, recordIn, ContentSays, RecordSays}

@@ -18,7 +18,8 @@ use Rattle.wire.specs.declared.container.Command.{Command}
 use Rattle.wire.specs.declared.container.Container.{Container}
 use Rattle.wire.specs.declared.container.ReadContainer.{ReadContainer}
 use Rattle.wire.proofs.laws.Contained.{container-length}
-use Rattle.wire.proofs.laws.ReadBack.{Whole, whole, Due, due, command-due, container-there, payload-there}
+use Rattle.layout.proofs.laws.Did.{Whole, whole}
+use Rattle.wire.proofs.laws.ReadBack.{Due, due, command-due, container-there, payload-there}
 use Rattle.wire.proofs.laws.ReadBack as wire
 use Rattle.session.specs.Returned.{Replies}
 use Rattle.session.specs.Search.{noData, replyTo, answerIn, saysFound}

@@ -15,6 +15,7 @@ use Rattle.layout.specs.Answer.{Answer, got, refused, pick, bare}
 use Rattle.layout.specs.Bytes.{bytes, number}
 use Rattle.layout.specs.Refusals.{KIND, COUNT, ROOM}
 use Rattle.layout.specs.Written.{Said, says, no, Wrote, answerOf, leftOf}
+use Rattle.layout.proofs.laws.Did.{Whole, whole}
 use Rattle.layout.proofs.laws.Numbers.{length-bytes, number-bytes}
 use Rattle.layout.proofs.laws.Tidied.{zero-one}
 use Rattle.wire.specs.Container.{isKind, headerAt, containerAt, containerWord, containerSaid, paramBytes, commandSaid, saysHeader, saysContainer}
@@ -106,26 +107,6 @@ module _ (kind code tid : ℕ) (payload behind : List ℕ) (known : isKind kind 
     payload-there = ap (take (length payload)) (sym (drop-drop 12 at s) ∙ ap (drop 12) stands) ∙ is-payload
 
 -- ── what a writer did ──
-
--- it wrote all that was due, at the front
-pub record Whole (s : Said) (old : List ℕ) (n : ℕ) (new : List ℕ) : Type 0 where
-  pub bs : List ℕ
-  pub due : s ≡ says bs
-  pub fits : length bs ≤ length old
-  pub count : n ≡ length bs
-  pub left : new ≡ bs ++ drop (length bs) old
-
-pub whole : {s : Said} {old new : List ℕ} {n : ℕ} → Wrote s old (got tt n) new → Whole s old n new
-unfolding answerOf leftOf
-whole {s} {old} {new} {n} w = of s refl (w .answers) (w .leaves)
-  where
-    of : (z : Said) → s ≡ z → got tt n ≡ answerOf z old → new ≡ leftOf z old → Whole s old n new
-    of (no t) d e f = zero-one (cc)
-    of (says bs) d e f = go (leb (length bs) (length old)) refl e f
-      where
-        go : (b : Bool) → leb (length bs) (length old) ≡ b → _≡_ {A = Answer (Unit {0})} (got tt n) (pick b (got tt (length bs)) (refused (bare ROOM))) → new ≡ pick b (bs ++ drop (length bs) old) old → Whole s old n new
-        go true h e f = record { bs = bs; due = d; fits = leb-true (length bs) (length old) h; count = cc; left = f }
-        go false h e f = zero-one (cc)
 
 pub record Due (kind code tid : ℕ) (payload w : List ℕ) : Type 0 where
   pub known : isKind kind ≡ true
