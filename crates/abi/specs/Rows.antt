@@ -3,9 +3,8 @@
 use mathlib.Core.Bool.{Bool, true, false}
 use mathlib.Core.List.{List, [], _∷_, _++_}
 use Prim.Native.Nat.{ℕ}
-use Rattle.recording.specs.declared.Content.{Content}
-use Rattle.recording.specs.declared.Content.the-variants as content
-use Rattle.recording.specs.declared.Record.{Record}
+use Rattle.recording.specs.Content.{Content, Record}
+use Rattle.recording.specs.Content as content
 use Rattle.session.specs.Search.{Reply, payload, response}
 use Rattle.wire.specs.Layout.{int, nat, pair}
 use Rattle.wire.specs.Places.{Located, number-is, items, units, empty}
@@ -68,8 +67,8 @@ replyRow (response code) = code ∷ 0 ∷ 0 ∷ []
 
 -- the container's kind, code, number and payload
 abbrev pub contentRow : Content → List ℕ
-contentRow content.Note = 0 ∷ 0 ∷ 0 ∷ 0 ∷ 0 ∷ []
-contentRow (content.Holds x) = x .kind ∷ x .code ∷ x .number ∷ x .payload .start ∷ x .payload .count ∷ []
+contentRow content.note = 0 ∷ 0 ∷ 0 ∷ 0 ∷ 0 ∷ []
+contentRow (content.holds x) = x .kind ∷ x .code ∷ x .number ∷ x .payload .start ∷ x .payload .count ∷ []
 
 abbrev pub recordRow : Record → List ℕ
 recordRow x = x .kind ∷ x .body .start ∷ x .body .count ∷ contentRow (x .content)

@@ -17,7 +17,7 @@ use lib.Seq.{drop-append-le, drop-drop, drop-at, take-add, take-all, take-append
 use Rattle.layout.specs.Answer.{Answer, got, refused, pick}
 use Rattle.layout.proofs.laws.Accepted.{Accepts}
 use Rattle.layout.proofs.laws.Tidied.{zero-one}
-use Rattle.recording.specs.declared.Record.{Record}
+use Rattle.recording.specs.Content.{Record}
 use Rattle.recording.specs.Record.{limit, recordOf}
 use Rattle.recording.proofs.laws.Rowed.{Stands, record-stands}
 use Rattle.listing.specs.declared.Tally.{Tally}

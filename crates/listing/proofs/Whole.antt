@@ -15,7 +15,7 @@ use lib.Seq.{drop-drop, drop-append-le}
 use Rattle.layout.specs.Answer.{Answer, got, refused, pick}
 use Rattle.layout.proofs.laws.Accepted.{Accepts}
 use Rattle.layout.proofs.laws.Tidied.{zero-one}
-use Rattle.recording.specs.declared.Record.{Record}
+use Rattle.recording.specs.Content.{Record}
 use Rattle.recording.specs.Record.{recordOf}
 use Rattle.recording.specs.Row.{isCut}
 use Rattle.recording.proofs.laws.Rowed.{Stands, record-stands, records-none, records-step, uncut-same}

@@ -15,7 +15,7 @@ use Rattle.layout.specs.Written.{Put}
 use Rattle.layout.proofs.laws.Accepted.{Accepts, accepts-all}
 use Rattle.layout.proofs.laws.Tidied.{zero-one}
 use Rattle.layout.proofs.laws.Writing.{Owes, start, part, end, long, put-front}
-use Rattle.recording.specs.declared.Record.{Record}
+use Rattle.recording.specs.Content.{Record}
 use Rattle.recording.specs.Record.{recordOf}
 use Rattle.recording.specs.Row.{isCut}
 use Rattle.recording.proofs.laws.Rowed.{Stands, record-stands}

@@ -5,6 +5,7 @@ ghost use lib.ListN.{length};
 ghost use Rattle.layout.specs.Written.{Put, roomed};
 ghost use Rattle.names.specs.Names.{nameBytes, given};
 ghost use Rattle.names.specs.Says.{saysName, bytesAt};
+ghost use Rattle.recording.specs.Record.{recordFrom};
 ghost use Rattle.listing.specs.Lines.{heading, decimal, hexCode, wayText, kindText, nameFor, codeText, countsText, containerLine, noteLine, refusalLine, recordLine, ending};
 use crate::decimal;
 use layout::Refusal;
@@ -121,8 +122,8 @@ pub(crate) fn put_refusal(place: u64, f: Refusal, out: &mut [u8], at: usize) -> 
 }
 
 pub(crate) fn put_record(place: u64, x: Record, names: &[u8], out: &mut [u8], at: usize) -> usize
-    requires { ⌜ (now names ≡ nameBytes) × (at + length (recordLine place x) ≤ length (now out)) ⌝ }
-    ensures { λ r. ⌜ Put (now (out .entry)) at (recordLine place x) (now (out .exit)) r ⌝ }
+    requires { ⌜ (now names ≡ nameBytes) × (at + length (recordLine place (recordFrom x)) ≤ length (now out)) ⌝ }
+    ensures { λ r. ⌜ Put (now (out .entry)) at (recordLine place (recordFrom x)) (now (out .exit)) r ⌝ }
 {
     let content = x.content;
     let body = x.body;

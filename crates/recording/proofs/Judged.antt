@@ -20,10 +20,11 @@ use Rattle.wire.specs.Tests.{_gives_else_, holds, fails, Otherwise, otherwise}
 use Rattle.wire.specs.Refused.{announced, kindIn, ContainerTests, containerIn, ContainerSays}
 use Rattle.wire.specs.declared.container.Container.{Container}
 use Rattle.wire.proofs.laws.Judged.{one-test, one-otherwise, till, goes-on, enough, least-row, field-row, beyond, container-judged}
-use Rattle.recording.specs.Record.{limit, isKind, begins, contentAt, bodyAt, recordOf, saysRecord}
-use Rattle.recording.specs.Refused.{bodyIn, recordIn, FilledSays, ContentSays, BodySays, RecordSays}
-use Rattle.recording.specs.declared.Content.the-variants as content
-use Rattle.recording.specs.declared.Record.{Record}
+use Rattle.recording.specs.Record.{limit, isKind, begins, contentAt, bodyAt, headOf, recordOf, saysRecord}
+use Rattle.recording.specs.Refused.{HeadTests, bodyIn, recordIn, FilledSays, ContentSays, RecordSays}
+use Rattle.recording.specs.declared.Head.{Head}
+use Rattle.recording.specs.Content as content
+use Rattle.recording.specs.Content.{Record}
 use Rattle.recording.specs.declared.ReadRecord.{ReadRecord}
 
 -- ── tests of a record ──
@@ -43,41 +44,69 @@ begins-row {A} {Q} len kind x {y} f = go (leb 6 len) refl (leb 1 kind) refl (leb
     go true d true e false g = holds (inr (inr (leb-false kind 3 g)))
     go true d true e true g = fails (none (leb-true 6 len d) (leb-true 1 kind e) (leb-true kind 3 g)) (f (leb-true 6 len d))
 
+-- ── the head ──
+
+abbrev pub headIn : List ℕ → Head
+headIn s = record { kind = kindIn s; body = record { start = 6; count = announced s - 6 } }
+
+abbrev pub HeadSays : List ℕ → Answer Head → Type 0
+HeadSays s = HeadTests s (Otherwise (got (headIn s) (announced s)))
+
 -- the body that is announced
-body-row : {A : Type 0} {Q : Answer A → Type 0} (len : ℕ) (s : List ℕ) (f : Unit {0} → ℕ → Answer A) → 6 ≤ len → 6 ≤ length s → (len ≤ length s → Q (f tt (6 + (len - 6)))) →
-    (length s < len gives refused (endAt 6) else Q) (after (spanAt 6 (len - 6) s 6) f)
-unfolding after
-body-row {A} {Q} len s f l h on = go (spanAt 6 (len - 6) s 6) (spanned 6 (len - 6) s 6)
+body-row : (s : List ℕ) → 6 ≤ announced s → 6 ≤ length s →
+    (length s < announced s gives refused (endAt 6) else Otherwise (got (headIn s) (announced s))) (means (λ _. headIn s) (spanAt 6 (announced s - 6) s 6))
+unfolding means
+body-row s l h = go (spanAt 6 (announced s - 6) s 6) (spanned 6 (announced s - 6) s 6)
   where
-    go : (x : Answer (Unit {0})) → Spanned 6 (len - 6) s 6 x → (length s < len gives refused (endAt 6) else Q) (after x f)
-    go (got t n) (there k) = let within : len ≤ length s = omega arith in fails (enough within) (on within)
+    go : (x : Answer (Unit {0})) → Spanned 6 (announced s - 6) s 6 x →
+        (length s < announced s gives refused (endAt 6) else Otherwise (got (headIn s) (announced s))) (means (λ _. headIn s) x)
+    go (got t n) (there k) = let within : announced s ≤ length s = omega arith in let end : 6 + (announced s - 6) ≡ announced s = omega arith in fails (enough within) (till end)
     go (refused t) (short k) = holds (omega arith)
+
+pub head-judged : (s : List ℕ) → HeadSays s (headOf s)
+unfolding headOf bodyAt
+head-judged s =
+    field-row 4 0 s 0 0 _ (lit≤ tt) refl refl λ a ea _.
+    field-row 2 4 s 0 4 _ (lit≤ tt) ea refl λ b eb hb.
+    rw eb (begins-row (announced s) (kindIn s) _ λ l. least-row (announced s - 6) limit _ λ _. body-row s l hb)
+
+pub head-one : (s : List ℕ) (x y : Answer Head) → HeadSays s x → HeadSays s y → x ≡ y
+head-one s = one-test (one-test (one-test (one-test (one-test one-otherwise))))
+
+-- behind its tests
+beyond-head : {A B : Type 0} (s : List ℕ) {P : Answer A → Type 0} {Q : Answer B → Type 0} (k : A → ℕ → Answer B) →
+    ((x : Answer A) → 6 ≤ announced s → announced s ≤ length s → P x → Q (after x k)) → (x : Answer A) → HeadTests s P x → HeadTests s Q (after x k)
+beyond-head s k f =
+    goes-on k λ x _. goes-on k (λ x _. goes-on k (λ x known. goes-on k (λ x _. goes-on k (λ x short. f x (least (λ h. known (inl h))) (least short)) x) x) x) x
+  where
+    least : {m n : ℕ} → (n < m → ⊥) → m ≤ n
+    least {m} {n} not-less = omega arith
+
+-- ── the body ──
 
 means-after : {A B C : Type 0} (f : B → C) (x : Answer A) (k : A → ℕ → Answer B) → means f (after x k) ≡ after x (λ a n. means f (k a n))
 unfolding means after
 means-after f (got a n) k = refl
 means-after f (refused t) k = refl
 
--- ── the body ──
-
 module _ (s : List ℕ) (six : 6 ≤ announced s) (whole : announced s ≤ length s) where
   -- the bytes that end with the body
   till-body : List ℕ
-  till-body = take (6 + (announced s - 6)) s
+  till-body = take (announced s) s
 
   body-is : drop 6 till-body ≡ bodyIn s
   unfolding till-body
-  body-is = drop-take 6 (announced s - 6) s
+  body-is = let e : 6 + (announced s - 6) ≡ announced s = omega arith in rw e at (drop-take 6 (announced s - 6) s)
 
   till-length : length till-body ≡ announced s
   unfolding till-body
-  till-length = length-take-le (6 + (announced s - 6)) s (omega arith) ∙ omega arith
+  till-length = length-take-le (announced s) s whole
 
   body-length : length (bodyIn s) ≡ announced s - 6
   body-length = length-take-le (announced s - 6) (drop 6 s) (omega (arith, length-drop 6 s))
 
   abbrev held : Container → ℕ → Answer Record
-  held x n = means (recordIn s) (pick (eqb n (length till-body)) (got (content.Holds x) n) (refused (bare TRAIL)))
+  held x n = means (recordIn s) (pick (eqb n (length till-body)) (got (content.holds x) n) (refused (bare TRAIL)))
 
   fills : (x : Answer Container) → (length (bodyIn s) < announced (bodyIn s) → ⊥) → Otherwise (got (containerIn 6 (bodyIn s)) (6 + announced (bodyIn s))) x →
       FilledSays s (after x held)
@@ -85,7 +114,7 @@ module _ (s : List ℕ) (six : 6 ≤ announced s) (whole : announced s ≤ lengt
   fills x within otherwise = go (eqb (6 + announced (bodyIn s)) (length till-body)) refl
     where
       go : (b : Bool) → eqb (6 + announced (bodyIn s)) (length till-body) ≡ b →
-          FilledSays s (means (recordIn s) (pick b (got (content.Holds (containerIn 6 (bodyIn s))) (6 + announced (bodyIn s))) (refused (bare TRAIL))))
+          FilledSays s (means (recordIn s) (pick b (got (content.holds (containerIn 6 (bodyIn s))) (6 + announced (bodyIn s))) (refused (bare TRAIL))))
       go true e =
           let same : 6 + announced (bodyIn s) ≡ length till-body = eqb-true (6 + announced (bodyIn s)) (length till-body) e in
           let n : 6 + announced (bodyIn s) ≡ announced s = same ∙ till-length in
@@ -102,30 +131,23 @@ module _ (s : List ℕ) (six : 6 ≤ announced s) (whole : announced s ≤ lengt
       go : (b : Bool) → eqb (kindIn s) 3 ≡ b →
           ContentSays s
           (means (recordIn s)
-          (pick b (got content.Note (length till-body))
-          (after (containerAt till-body 6) λ x n. pick (eqb n (length till-body)) (got (content.Holds x) n) (refused (bare TRAIL)))))
+          (pick b (got content.note (length till-body))
+          (after (containerAt till-body 6) λ x n. pick (eqb n (length till-body)) (got (content.holds x) n) (refused (bare TRAIL)))))
       go true e = rw till-length (holds (eqb-true (kindIn s) 3 e))
       go false e =
           let tests : ContainerTests 6 (bodyIn s) (FilledSays s) (after (containerAt till-body 6) held) = beyond 6 (bodyIn s) held (λ x _ _ p. goes-on held fills x p) (containerAt till-body 6) judged in
           fails (eqb-false (kindIn s) 3 e)
-          (rw (← means-after (recordIn s) (containerAt till-body 6) (λ x n. pick (eqb n (length till-body)) (got (content.Holds x) n) (refused (bare TRAIL)))) at tests)
+          (rw (← means-after (recordIn s) (containerAt till-body 6) (λ x n. pick (eqb n (length till-body)) (got (content.holds x) n) (refused (bare TRAIL)))) at tests)
 
 -- ── the record ──
 
-body-judged : (s : List ℕ) → 6 ≤ length s → BodySays s (bodyAt (announced s) (kindIn s) s 6)
-unfolding bodyAt till-body
-body-judged s h =
-    begins-row (announced s) (kindIn s) _ λ l.
-    least-row (announced s - 6) limit _ λ _.
-    body-row (announced s) s _ l h λ whole.
-    content-judged s l whole
-
 pub record-judged : (s : List ℕ) → RecordSays s (recordOf s)
-unfolding recordOf
-record-judged s =
-    field-row 4 0 s 0 0 _ (lit≤ tt) refl refl λ a ea _.
-    field-row 2 4 s 0 4 _ (lit≤ tt) ea refl λ b eb hb.
-    rw eb (body-judged s hb)
+unfolding recordOf after till-body
+record-judged s = beyond-head s _ rest (headOf s) (head-judged s)
+  where
+    rest : (x : Answer Head) → 6 ≤ announced s → announced s ≤ length s → Otherwise (got (headIn s) (announced s)) x →
+        ContentSays s (after x λ h end. means (λ c. record { kind = h .kind; body = h .body; content = c }) (contentAt (h .kind) (take end s) (h .body .start)))
+    rest x six whole otherwise = content-judged s six whole
 
 -- ── of the functions' own answers; and no other answer is said of the same bytes ──
 

@@ -2,67 +2,59 @@
 -- whole, or refused for good.
 -- Assumes nothing.
 use mathlib.Core.Path.{_≡_, refl, sym, ap, _∙_}
-use mathlib.Core.Bool.{Bool, true, false}
-use mathlib.Core.Logic.{inl, inr}
+use mathlib.Core.Bool.{Bool, false}
+use mathlib.Core.Logic.{_⊎_, inl, inr}
 use mathlib.Core.List.{List, _++_, append-assoc}
 use Prim.Native.Nat.{ℕ, _+_, _-_, _≤_, _<_}
 use native.Mathlib.Omega.{arith}
-use borrow.Author.Tests.{leb-true, leb-false, ltb-true, ltb-false}
-use lib.Dec.{leb, ltb}
-use lib.ListN.{length, take, drop, replicate, length-append, length-replicate}
+use lib.ListN.{length, replicate, length-append, length-replicate}
 use lib.Seq.{take-append-le}
-use Rattle.layout.specs.Answer.{Answer, got, refused, pick, after, spanAt, fieldAt}
+use Rattle.layout.specs.Answer.{Answer}
 use Rattle.layout.specs.Bytes.{Bytes, number}
 use Rattle.layout.specs.Fault.{Ends}
 use Rattle.layout.proofs.laws.Final.{Bytes-append, Bytes-zeros}
-use Rattle.layout.proofs.laws.Make.{Spanned, there, short, spanned}
+use Rattle.layout.specs.Refusals.{RECORD, LONG}
 use Rattle.wire.specs.Refused.{announced, kindIn}
 use Rattle.wire.specs.Tests.{holds, fails, otherwise}
 use Rattle.wire.proofs.laws.Judged.{one-test, one-otherwise, enough}
-use Rattle.recording.specs.Record.{limit, isKind, recordOf, saysRecord}
-use Rattle.recording.specs.Refused.{BodySays, RecordSays, Cut, in-front, in-body, CutSays}
-use Rattle.recording.specs.Row.{orCut, shortOf, isCut}
+use Rattle.recording.specs.Record.{limit, recordOf, saysRecord}
+use Rattle.recording.specs.Refused.{RecordSays, Cut, in-front, in-body, CutSays}
+use Rattle.recording.specs.Row.{isEnd, isCut}
+use Rattle.recording.specs.declared.Head.{Head}
 use Rattle.recording.specs.declared.ReadRecord.{ReadRecord}
-use Rattle.recording.specs.declared.Record.{Record}
-use Rattle.recording.proofs.Judged.{record-says}
+use Rattle.recording.specs.Content.{Record}
+use Rattle.recording.proofs.Judged.{HeadSays, head-judged, record-says}
+use Rattle.recording.proofs.Recorded.{end-no, bare-no}
 use Rattle.recording.proofs.laws.Rowed.{uncut-same}
 
 -- ── whether a record is cut ──
 
 module _ (s : List ℕ) where
-  body-cut : 6 ≤ length s → CutSays s (shortOf (announced s) (kindIn s) s 6)
-  unfolding shortOf isKind
-  body-cut six = go (leb 6 (announced s)) refl (leb 1 (kindIn s)) refl (leb (kindIn s) 3) refl (leb (announced s - 6) limit) refl (ltb (length s - 6) (announced s - 6)) refl
-    where
-      not-in-front : length s < 6 → ⊥
-      not-in-front h = omega arith
-
-      uncut : (6 ≤ announced s → 1 ≤ kindIn s → kindIn s ≤ 3 → announced s - 6 ≤ limit → length s < announced s → ⊥) → Cut s → ⊥
-      uncut f (in-front h) = not-in-front h
-      uncut f (in-body _ l low high small h) = f l low high small h
-
-      go : (a : Bool) → leb 6 (announced s) ≡ a → (b : Bool) → leb 1 (kindIn s) ≡ b → (c : Bool) → leb (kindIn s) 3 ≡ c → (d : Bool) → leb (announced s - 6) limit ≡ d →
-          (e : Bool) → ltb (length s - 6) (announced s - 6) ≡ e → CutSays s (pick (pick a (pick b c false) false) (pick d e false) false)
-      go false ea b eb c ec d ed e ee = fails (uncut λ l _ _ _ _. omega (arith, leb-false 6 (announced s) ea)) otherwise
-      go true ea false eb c ec d ed e ee = fails (uncut λ _ low _ _ _. omega (arith, leb-false 1 (kindIn s) eb)) otherwise
-      go true ea true eb false ec d ed e ee = fails (uncut λ _ _ high _ _. omega (arith, leb-false (kindIn s) 3 ec)) otherwise
-      go true ea true eb true ec false ed e ee = fails (uncut λ _ _ _ small _. omega (arith, leb-false (announced s - 6) limit ed)) otherwise
-      go true ea true eb true ec true ed false ee = fails (uncut λ l _ _ _ h. omega (arith, ltb-false (length s - 6) (announced s - 6) ee)) otherwise
-      go true ea true eb true ec true ed true ee =
-          holds (in-body six (leb-true 6 (announced s) ea) (leb-true 1 (kindIn s) eb) (leb-true (kindIn s) 3 ec) (leb-true (announced s - 6) limit ed) (omega (arith, ltb-true (length s - 6) (announced s - 6) ee)))
-
+  -- by the tests of the head: END is given where it is cut, and nowhere else
   cut-judged : CutSays s (isCut s)
-  unfolding isCut fieldAt after
-  cut-judged = first (spanAt 0 4 s 0) (spanned 0 4 s 0)
+  unfolding isCut
+  cut-judged = go (head-judged s)
     where
-      second : (x : Answer (Unit {0})) → Spanned 4 2 s 4 x → CutSays s (orCut (after x λ _ next. got (kindIn s) next) λ kind start. shortOf (announced s) kind s start)
-      second (got u n) (there h) = body-cut (omega arith)
-      second (refused u) (short h) = holds (in-front (omega arith))
+      uncut : (length s < 6 → ⊥) → (6 ≤ announced s → 1 ≤ kindIn s → kindIn s ≤ 3 → announced s - 6 ≤ limit → length s < announced s → ⊥) → Cut s → ⊥
+      uncut six f (in-front h) = six h
+      uncut six f (in-body _ l low high small h) = f l low high small h
 
-      first : (x : Answer (Unit {0})) → Spanned 0 4 s 0 x →
-          CutSays s (orCut (after x λ _ next. got (announced s) next) λ len a. orCut (after (spanAt a 2 s a) λ _ next. got (number (take 2 (drop a s))) next) λ kind start. shortOf len kind s start)
-      first (got u n) (there h) = second (spanAt 4 2 s 4) (spanned 4 2 s 4)
-      first (refused u) (short h) = holds (in-front (omega arith))
+      known : (announced s < 6) ⊎ (kindIn s < 1) ⊎ (3 < kindIn s) → 6 ≤ announced s → 1 ≤ kindIn s → kindIn s ≤ 3 → ⊥
+      known (inl h) l low high = enough l h
+      known (inr (inl h)) l low high = enough low h
+      known (inr (inr h)) l low high = enough high h
+
+      least : {m n : ℕ} → (n < m → ⊥) → m ≤ n
+      least {m} {n} not-less = omega arith
+
+      go : {x : Answer Head} → HeadSays s x → CutSays s (isEnd x)
+      go (holds h) = rw (end-no 0) (holds (in-front (omega arith)))
+      go (fails a (holds h)) = rw (end-no 4) (holds (in-front h))
+      go (fails a (fails b (holds h))) = rw (bare-no RECORD) (fails (uncut b λ l low high _ _. known h l low high) otherwise)
+      go (fails a (fails b (fails c (holds h)))) = rw (bare-no LONG) (fails (uncut b λ _ _ _ small _. enough small h) otherwise)
+      go (fails a (fails b (fails c (fails d (holds h))))) =
+          rw (end-no 6) (holds (in-body (least b) (least (λ k. c (inl k))) (least (λ k. c (inr (inl k)))) (least (λ k. c (inr (inr k)))) (least d) h))
+      go (fails a (fails b (fails c (fails d (fails e otherwise))))) = fails (uncut b λ _ _ _ _ h. e h) otherwise
 
   -- of the function's own answer
   pub cut-says : (r : Bool) → r ≡ isCut s → CutSays s r
@@ -75,16 +67,13 @@ module _ (s : List ℕ) where
 cut-ends : (s : List ℕ) (x : Answer Record) → Cut s → RecordSays s x → Ends x
 cut-ends s x c (holds h) = (0, refl)
 cut-ends s x c (fails n₁ (holds h)) = (4, refl)
-cut-ends s x c (fails n₁ (fails n₂ r)) = go c r
-  where
-    go : {y : Answer Record} → Cut s → BodySays s y → Ends y
-    go (in-front h) r = absurd (n₂ h)
-    go (in-body _ l low high small h) (holds (inl b)) = absurd (enough l b)
-    go (in-body _ l low high small h) (holds (inr (inl b))) = absurd (enough low b)
-    go (in-body _ l low high small h) (holds (inr (inr b))) = absurd (enough high b)
-    go (in-body _ l low high small h) (fails m₁ (holds b)) = absurd (enough small b)
-    go (in-body _ l low high small h) (fails m₁ (fails m₂ (holds b))) = (6, refl)
-    go (in-body _ l low high small h) (fails m₁ (fails m₂ (fails m₃ q))) = absurd (m₃ h)
+cut-ends s x (in-front h) (fails n₁ (fails n₂ r)) = absurd (n₂ h)
+cut-ends s x (in-body _ l low high small h) (fails n₁ (fails n₂ (holds (inl b)))) = absurd (enough l b)
+cut-ends s x (in-body _ l low high small h) (fails n₁ (fails n₂ (holds (inr (inl b))))) = absurd (enough low b)
+cut-ends s x (in-body _ l low high small h) (fails n₁ (fails n₂ (holds (inr (inr b))))) = absurd (enough high b)
+cut-ends s x (in-body _ l low high small h) (fails n₁ (fails n₂ (fails n₃ (holds b)))) = absurd (enough small b)
+cut-ends s x (in-body _ l low high small h) (fails n₁ (fails n₂ (fails n₃ (fails n₄ (holds b))))) = (6, refl)
+cut-ends s x (in-body _ l low high small h) (fails n₁ (fails n₂ (fails n₃ (fails n₄ (fails n₅ r))))) = absurd (n₅ h)
 
 pub cut-refused : (s : List ℕ) → Cut s → (r : ReadRecord) → saysRecord r ≡ recordOf s → Ends (saysRecord r)
 cut-refused s c r promised = cut-ends s (saysRecord r) c (record-says s r promised)

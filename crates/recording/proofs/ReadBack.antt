@@ -30,9 +30,8 @@ use Rattle.wire.proofs.laws.ReadBack as wire
 use Rattle.recording.specs.Record.{limit, isKind, contentAt, recordOf, recordWord, recordSaid, saysRecord}
 use Rattle.recording.specs.Refused.{bodyIn, recordIn, ContentSays, RecordSays}
 use Rattle.recording.specs.Returned.{Held, a-note, a-container, ReturnsRecord, ReturnsContainer}
-use Rattle.recording.specs.declared.Content.{Content}
-use Rattle.recording.specs.declared.Content.the-variants as content
-use Rattle.recording.specs.declared.Record.{Record}
+use Rattle.recording.specs.Content.{Content, Record}
+use Rattle.recording.specs.Content as content
 use Rattle.recording.specs.declared.ReadRecord.{ReadRecord}
 use Rattle.recording.proofs.Judged.{record-judged, record-one}
 use Rattle.recording.proofs.Recorded.{record-length}
@@ -55,16 +54,16 @@ taken-by : (kind : ℕ) (body : List ℕ) (c : Content) (n : ℕ) → contentAt 
 unfolding contentAt after
 taken-by kind body c n e = go (eqb kind 3) refl e
   where
-    ends : (x : Container) (m : ℕ) → containerAt body 0 ≡ got x m → (kind ≡ 3 → ⊥) → (b : Bool) → eqb m (length body) ≡ b → pick b (got (content.Holds x) m) (refused (bare TRAIL)) ≡ got c n → Taken kind body
+    ends : (x : Container) (m : ℕ) → containerAt body 0 ≡ got x m → (kind ≡ 3 → ⊥) → (b : Bool) → eqb m (length body) ≡ b → pick b (got (content.holds x) m) (refused (bare TRAIL)) ≡ got c n → Taken kind body
     ends x m is other true h f = let same : m ≡ length body = eqb-true m (length body) h in filled x other (rw same at is)
     ends x m is other false h f = zero-one (cc)
 
-    of : (y : Answer Container) → containerAt body 0 ≡ y → (kind ≡ 3 → ⊥) → after y (λ x m. pick (eqb m (length body)) (got (content.Holds x) m) (refused (bare TRAIL))) ≡ got c n → Taken kind body
+    of : (y : Answer Container) → containerAt body 0 ≡ y → (kind ≡ 3 → ⊥) → after y (λ x m. pick (eqb m (length body)) (got (content.holds x) m) (refused (bare TRAIL))) ≡ got c n → Taken kind body
     of (got x m) is other f = ends x m is other (eqb m (length body)) refl f
     of (refused t) is other f = zero-one (cc)
 
     go : (b : Bool) → eqb kind 3 ≡ b →
-        pick b (got content.Note (length body)) (after (containerAt body 0) λ x m. pick (eqb m (length body)) (got (content.Holds x) m) (refused (bare TRAIL))) ≡ got c n → Taken kind body
+        pick b (got content.note (length body)) (after (containerAt body 0) λ x m. pick (eqb m (length body)) (got (content.holds x) m) (refused (bare TRAIL))) ≡ got c n → Taken kind body
     go true h f = note (eqb-true kind 3 h)
     go false h f = of (containerAt body 0) refl (eqb-false kind 3 h) f
 
@@ -140,7 +139,7 @@ module _ (kind : ℕ) (body behind : List ℕ) (low : 1 ≤ kind) (high : kind �
   abbrev answer : Content → Answer Record
   answer c = got (recordIn word c) (announced word)
 
-  of-note : kind ≡ 3 → RecordSays word (answer content.Note)
+  of-note : kind ≡ 3 → RecordSays word (answer content.note)
   of-note e = own (holds (is-kind ∙ e))
 
   -- the container fills the body
@@ -152,7 +151,7 @@ module _ (kind : ℕ) (body behind : List ℕ) (low : 1 ≤ kind) (high : kind �
       ends : {y : Answer Container} → y ≡ got x (length body) → Otherwise (got (containerIn 0 body) (0 + announced body)) y → announced body ≡ length body
       ends e otherwise = let same : 0 + announced body ≡ length body = cc in omega arith
 
-  of-container : (x : Container) → (kind ≡ 3 → ⊥) → containerAt body 0 ≡ got x (length body) → RecordSays word (answer (content.Holds (containerIn 6 (bodyIn word))))
+  of-container : (x : Container) → (kind ≡ 3 → ⊥) → containerAt body 0 ≡ got x (length body) → RecordSays word (answer (content.holds (containerIn 6 (bodyIn word))))
   of-container x other is = own (fails (λ e. other (sym is-kind ∙ e)) (moved (bodyIn word) refl (λ _. fails (λ h. omega (arith, full)) otherwise) judged))
     where
       same : containerAt (bodyIn word) 0 ≡ got x (length (bodyIn word))
@@ -173,15 +172,15 @@ module _ (kind : ℕ) (body behind : List ℕ) (low : 1 ≤ kind) (high : kind �
 
   returned : (y : Answer Record) (n : ℕ) → y ≡ recordOf word → n ≡ 6 + length body → Taken kind body → ReturnsRecord kind body word n y
   returned y n e h (note three) = record {
-    found = recordIn word content.Note;
-    answer = rw (h ∙ sym is-announced) (e ∙ record-one word (recordOf word) (answer content.Note) (record-judged word) (of-note three));
+    found = recordIn word content.note;
+    answer = rw (h ∙ sym is-announced) (e ∙ record-one word (recordOf word) (answer content.note) (record-judged word) (of-note three));
     same-kind = is-kind;
     holds = is-body;
     held = a-note three;
   }
   returned y n e h (filled x other is) = record {
-    found = recordIn word (content.Holds (containerIn 6 (bodyIn word)));
-    answer = rw (h ∙ sym is-announced) (e ∙ record-one word (recordOf word) (answer (content.Holds (containerIn 6 (bodyIn word)))) (record-judged word) (of-container x other is));
+    found = recordIn word (content.holds (containerIn 6 (bodyIn word)));
+    answer = rw (h ∙ sym is-announced) (e ∙ record-one word (recordOf word) (answer (content.holds (containerIn 6 (bodyIn word)))) (record-judged word) (of-container x other is));
     same-kind = is-kind;
     holds = is-body;
     held = a-container other (ap kindIn is-body) (ap codeIn is-body) (ap numberIn is-body) (payload-there x is);

@@ -1,3 +1,4 @@
+pub mod Content
 pub mod Record
 pub mod Row
 pub mod Refused

@@ -14,11 +14,24 @@ use Rattle.layout.specs.Refusals.{TRAIL, RECORD, LONG}
 use Rattle.wire.specs.Tests.{_gives_else_, Otherwise}
 use Rattle.wire.specs.Refused.{announced, kindIn, ContainerTests, containerIn}
 use Rattle.recording.specs.Record.{limit}
-use Rattle.recording.specs.declared.Content.{Content}
-use Rattle.recording.specs.declared.Content.the-variants as content
-use Rattle.recording.specs.declared.Record.{Record}
+use Rattle.recording.specs.Content.{Content, Record}
+use Rattle.recording.specs.Content as content
 
--- a record begins as a container does: with its length and its kind. The rest is its body
+-- ── the tests of a record's head, and what is said after them ──
+
+-- a record begins as a container does: with its length and its kind
+abbrev pub HeadTests : {A : Type 0} → List ℕ → (Answer A → Type 0) → Answer A → Type 0
+HeadTests s rest =
+    length s < 4 gives refused (endAt 0) else
+    length s < 6 gives refused (endAt 4) else
+    (announced s < 6) ⊎ (kindIn s < 1) ⊎ (3 < kindIn s) gives refused (bare RECORD) else
+    limit < announced s - 6 gives refused (bare LONG) else
+    length s < announced s gives refused (endAt 6) else
+    rest
+
+-- ── of a record, by what its body holds ──
+
+-- the rest is its body
 abbrev pub bodyIn : List ℕ → List ℕ
 bodyIn s = take (announced s - 6) (drop 6 s)
 
@@ -29,26 +42,16 @@ recordIn s c = record { kind = kindIn s; body = record { start = 6; count = anno
 abbrev pub FilledSays : List ℕ → Answer Record → Type 0
 FilledSays s =
     announced (bodyIn s) < length (bodyIn s) gives refused (bare TRAIL) else
-    Otherwise (got (recordIn s (content.Holds (containerIn 6 (bodyIn s)))) (announced s))
+    Otherwise (got (recordIn s (content.holds (containerIn 6 (bodyIn s)))) (announced s))
 
 -- a note is any bytes
 abbrev pub ContentSays : List ℕ → Answer Record → Type 0
 ContentSays s =
-    kindIn s ≡ 3 gives got (recordIn s content.Note) (announced s) else
+    kindIn s ≡ 3 gives got (recordIn s content.note) (announced s) else
     ContainerTests 6 (bodyIn s) (FilledSays s)
 
-abbrev pub BodySays : List ℕ → Answer Record → Type 0
-BodySays s =
-    (announced s < 6) ⊎ (kindIn s < 1) ⊎ (3 < kindIn s) gives refused (bare RECORD) else
-    limit < announced s - 6 gives refused (bare LONG) else
-    length s < announced s gives refused (endAt 6) else
-    ContentSays s
-
 abbrev pub RecordSays : List ℕ → Answer Record → Type 0
-RecordSays s =
-    length s < 4 gives refused (endAt 0) else
-    length s < 6 gives refused (endAt 4) else
-    BodySays s
+RecordSays s = HeadTests s (ContentSays s)
 
 -- ── bytes that follow ──
 

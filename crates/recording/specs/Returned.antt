@@ -8,15 +8,14 @@ use Rattle.layout.specs.Answer.{Answer, got}
 use Rattle.wire.specs.Refused.{kindIn, codeIn, numberIn}
 use Rattle.wire.specs.Returned.{partOf}
 use Rattle.wire.specs.declared.container.Container.{Container}
-use Rattle.recording.specs.declared.Content.{Content}
-use Rattle.recording.specs.declared.Content.the-variants as content
-use Rattle.recording.specs.declared.Record.{Record}
+use Rattle.recording.specs.Content.{Content, Record}
+use Rattle.recording.specs.Content as content
 
 -- what a body holds, by the record's kind: a container has the body's kind, code, number and payload
 pub data Held (body s : List ℕ) : ℕ → Content → Type 0 where
-  a-note : {kind : ℕ} → kind ≡ 3 → Held body s kind content.Note
+  a-note : {kind : ℕ} → kind ≡ 3 → Held body s kind content.note
   a-container : {kind : ℕ} {x : Container} → (kind ≡ 3 → ⊥) → x .kind ≡ kindIn body → x .code ≡ codeIn body → x .number ≡ numberIn body → partOf s (x .payload) ≡ drop 12 body →
-      Held body s kind (content.Holds x)
+      Held body s kind (content.holds x)
 
 -- the record is accepted with that kind, with a body whose bytes are those, and with n as the place after it
 pub record ReturnsRecord (kind : ℕ) (body s : List ℕ) (n : ℕ) (x : Answer Record) : Type 0 where

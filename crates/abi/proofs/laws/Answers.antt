@@ -8,8 +8,8 @@ use lib.ListN.{length, getD}
 use Rattle.layout.specs.Answer.{Told, Answer, got, refused}
 use Rattle.layout.specs.Written.{says, Wrote}
 use Rattle.layout.proofs.laws.Writing.{refusal}
-use Rattle.recording.specs.declared.Content.{Content}
-use Rattle.recording.specs.declared.Content.the-variants as content
+use Rattle.recording.specs.Content.{Content}
+use Rattle.recording.specs.Content as content
 use Rattle.wire.specs.declared.property.Form.{Form}
 use Rattle.wire.specs.declared.property.Form.the-variants as form
 use Rattle.abi.specs.Answered.{given}
@@ -39,5 +39,5 @@ form-long (form.Range a b c) = refl
 form-long (form.List p n) = refl
 
 pub content-long : (x : Content) → length (contentRow x) ≡ 5
-content-long content.Note = refl
-content-long (content.Holds x) = refl
+content-long content.note = refl
+content-long (content.holds x) = refl

@@ -9,7 +9,7 @@ use Rattle.layout.specs.Answer.{got, refused}
 use Rattle.layout.proofs.laws.Accepted.{accepted}
 use Rattle.layout.proofs.laws.Numbers.{bytes-of, Bytes-drop}
 use Rattle.layout.proofs.laws.Reading.{heard}
-use Rattle.recording.specs.Record.{recordOf, saysRecord}
+use Rattle.recording.specs.Record.{recordOf, saysRecord, recordFrom}
 use Rattle.recording.proofs.laws.Rowed.{record-stands, record-small}
 use Rattle.listing.specs.Lines.{recordLine}
 use Rattle.listing.specs.Window.{lineRoom, waits, windowOf}
@@ -28,16 +28,16 @@ abbrev μ-loop : tie.MeasureT-loop
 μ-loop s last start count names out₀ used₀ written₀ place₀ records₀ out used written place records = length s - used
 
 -- the record that was read, and the room for its line
-read : (c : tie.After-x Inv-loop μ-loop) → got (c .x .given .0 .0) (c .x .given .0 .1 .0 .at) ≡ recordOf (drop (c .before .before .before .before .before .loop .used) (now (c .before .before .before .before .before .before .before .before .before .args .s)))
+read : (c : tie.After-x Inv-loop μ-loop) → got (recordFrom (c .x .given .0 .0)) (c .x .given .0 .1 .0 .at) ≡ recordOf (drop (c .before .before .before .before .before .loop .used) (now (c .before .before .before .before .before .before .before .before .before .args .s)))
 read c = rw (part-from (now (c .before .before .before .before .before .before .before .before .before .args .s)) (c .before .before .before .before .before .loop .used)) at (heard saysRecord (c .x .given .1) (c .before .before .read-record .ensures))
 
-short-line : (c : tie.After-x Inv-loop μ-loop) → length (recordLine (c .before .before .before .before .before .loop .place) (c .x .given .0 .0)) ≤ lineRoom
+short-line : (c : tie.After-x Inv-loop μ-loop) → length (recordLine (c .before .before .before .before .before .loop .place) (recordFrom (c .x .given .0 .0))) ≤ lineRoom
 short-line c =
     let l = c .before .before .before .before .before in
     let s = now (l .before .before .before .before .args .s) in
     let rest = drop (l .loop .used) s in
     let bytes = Bytes-drop (l .loop .used) s (bytes-of s (λ i. l .before .before .before .shared-slice-known .given i .fits)) in
-    record-short (l .loop .place) rest (c .x .given .0 .0) (c .x .given .0 .1 .0 .at) (l .loop .inv .2) (omega (arith, length-drop (l .loop .used) s))
+    record-short (l .loop .place) rest (recordFrom (c .x .given .0 .0)) (c .x .given .0 .1 .0 .at) (l .loop .inv .2) (omega (arith, length-drop (l .loop .used) s))
     (accepted _ (record-stands rest) (read c)) (accepted _ (record-small rest bytes) (read c))
 
 loop-holds : tie.Need-loop-holds Inv-loop μ-loop

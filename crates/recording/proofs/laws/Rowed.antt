@@ -2,28 +2,31 @@
 -- Assumes nothing.
 use mathlib.Core.Path.{_≡_, refl, sym, ap, _∙_}
 use mathlib.Core.Bool.{Bool, true, false}
+use mathlib.Core.Logic.{_⊎_, inl}
 use mathlib.Core.List.{List, [], _∷_, _++_}
 use Prim.Native.Nat.{ℕ, zero, suc, _+_, _-_, _^_, _≤_, _<_}
 use native.Mathlib.Omega.{arith}
-use borrow.Author.Tests.{leb-true, leb-false, eqb-true, lt-ltb, le-ltb, ltb-false}
-use lib.Dec.{leb, ltb, eqb}
+use borrow.Author.Tests.{eqb-true, lt-ltb, le-ltb}
+use lib.Dec.{ltb, eqb}
 use lib.ListN.{length, take, drop, length-append, length-drop, take-append-drop}
 use lib.Seq.{length-take-le, take-append-le, drop-append-le}
-use Rattle.layout.specs.Answer.{Answer, got, refused, pick, after, spanAt, fieldAt}
+use Rattle.layout.specs.Answer.{Answer, got, refused, pick, after, means, endAt, bare}
 use Rattle.layout.specs.Bytes.{Bytes, number}
-use Rattle.layout.proofs.laws.Accepted.{Accepts, accepts-any, accepts-all, accepts-both, accepts-means, accepts-after, accepts-pick, accepts-field}
-use Rattle.layout.proofs.laws.Make.{Spanned, there, short, spanned, span-there}
+use Rattle.layout.specs.Refusals.{END, RECORD, LONG}
+use Rattle.layout.proofs.laws.Accepted.{Accepts, accepts-any, accepts-all, accepts-both, accepts-means, accepts-after, accepts-pick}
 use Rattle.layout.proofs.laws.Numbers.{Bytes-take}
 use Rattle.layout.proofs.laws.Tidied.{zero-one}
-use Rattle.wire.specs.Places.{numAt}
 use Rattle.wire.specs.Container.{containerAt}
+use Rattle.wire.specs.Refused.{announced, kindIn}
+use Rattle.wire.specs.Tests.{_gives_else_, holds, fails, Otherwise, otherwise}
 use Rattle.wire.proofs.laws.Contained.{Boxed, container-stands, container-small}
-use Rattle.recording.specs.declared.Content.{Content}
-use Rattle.recording.specs.declared.Content.the-variants as content
-use Rattle.recording.specs.declared.Record.{Record}
-use Rattle.recording.specs.Record.{limit, begins, contentAt, bodyAt, recordOf}
-use Rattle.recording.proofs.Recorded.{body-13, body-14, body-there}
-use Rattle.recording.specs.Row.{followed, found, recordsIn, orCut, shortOf, isCut}
+use Rattle.recording.specs.Content.{Content, Record}
+use Rattle.recording.specs.Content as content
+use Rattle.recording.specs.Record.{limit, contentAt, headOf, recordOf}
+use Rattle.recording.specs.Row.{followed, found, recordsIn, isEnd, isCut}
+use Rattle.recording.specs.declared.Head.{Head}
+use Rattle.recording.proofs.Judged.{HeadSays, head-judged, head-one}
+use Rattle.recording.proofs.Recorded.{end-no, bare-no}
 
 -- ── where a record ends ──
 
@@ -42,31 +45,29 @@ content-ends kind s at =
     accepts-pick _ (eqb kind 3) _ _ (λ _. refl)
     (λ _. accepts-after (λ _ _. Unit {0}) _ (containerAt s at) _ (accepts-any (containerAt s at)) λ x n _. accepts-pick _ (eqb n (length s)) _ _ (λ e. eqb-true n (length s) e) (λ _. tt))
 
-pub record-stands : (s : List ℕ) → Accepts (Stands s) (recordOf s)
-unfolding recordOf bodyAt
-record-stands s =
-    accepts-after _ _ (numAt 4 s 0) _ (accepts-field 4 number s 0) λ len a p.
-    accepts-after _ _ (numAt 2 s a) _ (accepts-field 2 number s a) λ kind b q.
-    accepts-pick _ (begins len kind) _ _
-    (λ _.
-    accepts-pick _ (leb (len - 6) limit) _ _
-    (λ _.
-    accepts-after _ _ (spanAt b (len - 6) s b) _ (spans b (len - 6) (spanAt b (len - 6) s b) (spanned b (len - 6) s b)) λ _ next r.
-    accepts-means _ _ _ (contentAt kind (take next s) b) (content-ends kind (take next s) b)
-    λ c n e.
-    let l = length-take-le next s (omega arith) in
-    record { start = omega arith; till = omega arith; within = omega arith })
-    (λ _. tt))
-    (λ _. tt)
+pub head-stands : (s : List ℕ) → Accepts (λ h n. (h .body .start ≡ 6) × (n ≡ 6 + h .body .count) × (n ≤ length s)) (headOf s)
+head-stands s = go (head-judged s)
   where
-    spans : (b n : ℕ) (x : Answer (Unit {0})) → Spanned b n s b x → Accepts (λ _ next. (n ≤ length s - b) × (next ≡ b + n)) x
-    spans b n (got u p) (there h) = (h, refl)
-    spans b n (refused u) (short h) = tt
+    go : {x : Answer Head} → HeadSays s x → Accepts (λ h n. (h .body .start ≡ 6) × (n ≡ 6 + h .body .count) × (n ≤ length s)) x
+    go (holds h) = tt
+    go (fails a (holds h)) = tt
+    go (fails a (fails b (holds h))) = tt
+    go (fails a (fails b (fails c (holds h)))) = tt
+    go (fails a (fails b (fails c (fails d (holds h))))) = tt
+    go (fails a (fails b (fails c (fails d (fails e otherwise))))) = let six : announced s < 6 → ⊥ = λ h. c (inl h) in (refl, omega arith, omega arith)
+
+pub record-stands : (s : List ℕ) → Accepts (Stands s) (recordOf s)
+unfolding recordOf
+record-stands s =
+    accepts-after _ _ (headOf s) _ (head-stands s) λ h end p.
+    accepts-means _ _ _ (contentAt (h .kind) (take end s) (h .body .start)) (content-ends (h .kind) (take end s) (h .body .start)) λ c n e.
+    let same : n ≡ end = e ∙ length-take-le end s (p .2) in
+    record { start = p .0; till = same ∙ p .1; within = omega (arith, p .2) }
 
 -- what it holds has numbers of four bytes, and a payload within
 abbrev pub Small : List ℕ → Content → Type 0
-Small s content.Note = Unit {0}
-Small s (content.Holds x) = (x .number < 256 ^ 4) × (x .payload .count ≤ length s)
+Small s content.note = Unit {0}
+Small s (content.holds x) = (x .number < 256 ^ 4) × (x .payload .count ≤ length s)
 
 content-small : (kind : ℕ) (s : List ℕ) → Bytes s → (at : ℕ) → Accepts (λ c n. Small s c) (contentAt kind s at)
 unfolding contentAt
@@ -77,22 +78,14 @@ content-small kind s h at =
     accepts-pick _ (eqb n (length s)) _ _ (λ _. (p .0, omega (arith, p .1 .till, p .1 .within))) (λ _. tt))
 
 pub record-small : (s : List ℕ) → Bytes s → Accepts (λ x n. Small s (x .content)) (recordOf s)
-unfolding recordOf bodyAt
+unfolding recordOf
 record-small s h =
-    accepts-after _ _ (numAt 4 s 0) _ (accepts-any (numAt 4 s 0)) λ len a p.
-    accepts-after _ _ (numAt 2 s a) _ (accepts-any (numAt 2 s a)) λ kind b q.
-    accepts-pick _ (begins len kind) _ _
-    (λ _.
-    accepts-pick _ (leb (len - 6) limit) _ _
-    (λ _.
-    accepts-after _ _ (spanAt b (len - 6) s b) _ (accepts-any (spanAt b (len - 6) s b)) λ _ next r.
-    accepts-means _ _ _ (contentAt kind (take next s) b) (content-small kind (take next s) (Bytes-take next s h) b) λ c n e. wider next c e)
-    (λ _. tt))
-    (λ _. tt)
+    accepts-after _ _ (headOf s) _ (accepts-any (headOf s)) λ f end p.
+    accepts-means _ _ _ (contentAt (f .kind) (take end s) (f .body .start)) (content-small (f .kind) (take end s) (Bytes-take end s h) (f .body .start)) λ c n e. wider end c e
   where
     wider : (next : ℕ) (c : Content) → Small (take next s) c → Small s c
-    wider next content.Note e = tt
-    wider next (content.Holds x) e = (e .0, omega (arith, e .1, length-take-most next s))
+    wider next content.note e = tt
+    wider next (content.holds x) e = (e .0, omega (arith, e .1, length-take-most next s))
 
 -- ── fuel ──
 
@@ -131,42 +124,78 @@ records-step s h =
 
 -- ── bytes that follow ──
 
-field-same : {A : Type 0} (w : ℕ) (mean : List ℕ → A) (s t : List ℕ) (at : ℕ) → w ≤ length s - at → 0 < w → fieldAt w mean (s ++ t) at ≡ fieldAt w mean s at
-unfolding fieldAt
-field-same w mean s t at h k =
-    let l = length-append s t in
-    let e : take w (drop at (s ++ t)) ≡ take w (drop at s) = rw (drop-append-le at s t (omega arith)) (take-append-le w (drop at s) t (rw (length-drop at s) h)) in
-    rw (span-there at w (s ++ t) at (omega arith), span-there at w s at h, e)
+is-end : (place : ℕ) → eqb (endAt place .no) END ≡ false → ⊥
+is-end place e = let f : true ≡ false = rw (end-no place) at e in zero-one (cc)
 
-body-same : (len kind : ℕ) (s t : List ℕ) (start : ℕ) → start ≤ length s → shortOf len kind s start ≡ false → bodyAt len kind (s ++ t) start ≡ bodyAt len kind s start
-unfolding shortOf
-body-same len kind s t start h e = go (begins len kind) refl (leb (len - 6) limit) refl e
+not-end : (number : ℕ) → eqb number END ≡ false → eqb (bare number .no) END ≡ true → ⊥
+not-end number h e = let f : eqb number END ≡ true = rw (bare-no number) at e in zero-one (cc)
+
+-- the tests of a head by its two numbers and how many bytes there are
+abbrev Known : ℕ → ℕ → ℕ → Answer Head → Type 0
+Known len kind n =
+    (len < 6) ⊎ (kind < 1) ⊎ (3 < kind) gives refused (bare RECORD) else
+    limit < len - 6 gives refused (bare LONG) else
+    n < len gives refused (endAt 6) else
+    Otherwise (got (record { kind = kind; body = record { start = 6; count = len - 6 } }) len)
+
+-- a head that is not cut has its six bytes, which are the first of more bytes too
+head-same : (s t : List ℕ) → isCut s ≡ false → headOf (s ++ t) ≡ headOf s
+unfolding isCut
+head-same s t uncut = head-one (s ++ t) (headOf (s ++ t)) (headOf s) (head-judged (s ++ t)) (go (head-judged s) uncut)
   where
-    whole : begins len kind ≡ true → len - 6 ≤ limit → len - 6 ≤ length s - start → bodyAt len kind (s ++ t) start ≡ bodyAt len kind s start
-    whole b c k =
-        let l = length-append s t in
-        sym (body-there len kind (s ++ t) start b c (omega arith) refl) ∙ rw (take-append-le (start + (len - 6)) s t (omega arith)) (body-there len kind s start b c k refl)
+    longer : (n : ℕ) → (length s < n → ⊥) → length (s ++ t) < n → ⊥
+    longer n h k = omega (arith, length-append s t)
 
-    go :
-        (b : Bool) → begins len kind ≡ b → (c : Bool) → leb (len - 6) limit ≡ c → pick b (pick c (ltb (length s - start) (len - 6)) false) false ≡ false →
-        bodyAt len kind (s ++ t) start ≡ bodyAt len kind s start
-    go false b c l e = sym (body-13 len kind (s ++ t) start b refl) ∙ body-13 len kind s start b refl
-    go true b false l e = sym (body-14 len kind (s ++ t) start b (leb-false (len - 6) limit l) refl) ∙ body-14 len kind s start b (leb-false (len - 6) limit l) refl
-    go true b true l e = whole b (leb-true (len - 6) limit l) (ltb-false (length s - start) (len - 6) e)
+    len : (length s < 6 → ⊥) → announced (s ++ t) ≡ announced s
+    len six = ap number (take-append-le 4 s t (omega arith))
+
+    kind : (length s < 6 → ⊥) → kindIn (s ++ t) ≡ kindIn s
+    kind six = ap number (rw (drop-append-le 4 s t (omega arith)) (take-append-le 2 (drop 4 s) t (rw (length-drop 4 s) (omega arith))))
+
+    -- behind the six bytes
+    behind : {x : Answer Head} → (length s < 6 → ⊥) → Known (announced s) (kindIn s) (length (s ++ t)) x →
+        (length (s ++ t) < 6 gives refused (endAt 4) else Known (announced (s ++ t)) (kindIn (s ++ t)) (length (s ++ t))) x
+    behind {x} six r = fails {x = x} (longer 6 six) (rw (len six, kind six) r)
+
+    go : {x : Answer Head} → HeadSays s x → isEnd x ≡ false → HeadSays (s ++ t) x
+    go (holds h) e = absurd (is-end 0 e)
+    go (fails a (holds h)) e = absurd (is-end 4 e)
+    go (fails a (fails b (holds h))) e = fails (longer 4 a) (behind b (holds h))
+    go (fails a (fails b (fails c (holds h)))) e = fails (longer 4 a) (behind b (fails c (holds h)))
+    go (fails a (fails b (fails c (fails d (holds h))))) e = absurd (is-end 6 e)
+    go (fails a (fails b (fails c (fails d (fails f otherwise))))) e =
+        fails (longer 4 a) (behind b (fails c (fails d (fails (longer (announced s) f) otherwise))))
+
+after-same : {A B : Type 0} (x : Answer A) (f g : A → ℕ → Answer B) → Accepts (λ a n. f a n ≡ g a n) x → after x f ≡ after x g
+unfolding after
+after-same (got a n) f g e = e
+after-same (refused t) f g e = refl
 
 pub uncut-same : (s t : List ℕ) → isCut s ≡ false → recordOf (s ++ t) ≡ recordOf s
-unfolding recordOf isCut after
-uncut-same s t e = first (numAt 4 s 0) refl (accepts-field 4 number s 0) e
+unfolding recordOf
+uncut-same s t uncut = rw (head-same s t uncut) (after-same (headOf s) (filled (s ++ t)) (filled s) (accepts-all _ _ (headOf s) (head-stands s) λ h end p. rw (take-append-le end s t (p .2))))
   where
-    second :
-        (len a : ℕ) → a ≡ 4 → (y : Answer ℕ) → numAt 2 s a ≡ y → Accepts (λ _ n. (2 ≤ length s - a) × (n ≡ a + 2)) y → orCut y (λ kind start. shortOf len kind s start) ≡ false →
-        after (numAt 2 (s ++ t) a) (λ kind start. bodyAt len kind (s ++ t) start) ≡ after (numAt 2 s a) (λ kind start. bodyAt len kind s start)
-    second len a f (got kind start) is p e = rw (field-same 2 number s t a (p .0) (omega arith), is) (body-same len kind s t start (omega arith) e)
-    second len a f (refused u) is p e = zero-one (cc)
+    filled : List ℕ → Head → ℕ → Answer Record
+    filled v h end = means (λ c. record { kind = h .kind; body = h .body; content = c }) (contentAt (h .kind) (take end v) (h .body .start))
 
-    first :
-        (x : Answer ℕ) → numAt 4 s 0 ≡ x → Accepts (λ _ n. (4 ≤ length s - 0) × (n ≡ 0 + 4)) x → orCut x (λ len a. orCut (numAt 2 s a) λ kind start. shortOf len kind s start) ≡ false →
-        after (numAt 4 (s ++ t) 0) (λ len a. after (numAt 2 (s ++ t) a) λ kind start. bodyAt len kind (s ++ t) start)
-        ≡ after (numAt 4 s 0) (λ len a. after (numAt 2 s a) λ kind start. bodyAt len kind s start)
-    first (got len a) is p e = rw (field-same 4 number s t 0 (p .0) (omega arith), is) (second len a (omega arith) (numAt 2 s a) refl (accepts-field 2 number s a) e)
-    first (refused u) is p e = zero-one (cc)
+-- what is cut is shorter than the longest record, and a whole record is not cut
+pub cut-short : (s : List ℕ) → isCut s ≡ true → length s < 6 + limit
+unfolding isCut
+cut-short s cut = go (head-judged s) cut
+  where
+    go : {x : Answer Head} → HeadSays s x → isEnd x ≡ true → length s < 6 + limit
+    go (holds h) e = omega arith
+    go (fails a (holds h)) e = omega arith
+    go (fails a (fails b (holds h))) e = absurd (not-end RECORD refl e)
+    go (fails a (fails b (fails c (holds h)))) e = absurd (not-end LONG refl e)
+    go (fails a (fails b (fails c (fails d (holds h))))) e = omega arith
+    go (fails a (fails b (fails c (fails d (fails f otherwise))))) e = zero-one (cc)
+
+pub whole-uncut : (s : List ℕ) {x : Record} {n : ℕ} → got x n ≡ recordOf s → isCut s ≡ false
+unfolding recordOf isCut after
+whole-uncut s {x} {n} e = go (headOf s) e
+  where
+    go : (y : Answer Head) →
+        got x n ≡ after y (λ h end. means (λ c. record { kind = h .kind; body = h .body; content = c }) (contentAt (h .kind) (take end s) (h .body .start))) → isEnd y ≡ false
+    go (got h end) e = refl
+    go (refused t) e = zero-one (cc)
