@@ -1,19 +1,19 @@
 -- What is left of a window: the bounds of a part that are cut to the window give the same part, and bytes moved one by one to the front
 -- stand there in the end.
 -- Assumes nothing.
-use mathlib.Core.Path.{_≡_, refl, sym, ap, _∙_}
+use mathlib.Core.Path.{_≡_, refl, sym, _∙_}
 use mathlib.Core.Bool.{Bool, true, false}
-use mathlib.Core.List.{List, [], _++_}
-use Prim.Native.Nat.{ℕ, zero, suc, _+_, _-_, _≤_, _<_}
+use mathlib.Core.List.{List, _++_}
+use Prim.Native.Nat.{ℕ, _+_, _-_, _≤_, _<_}
 use native.Mathlib.Nat.{zero-add}
 use native.Mathlib.Numerals.{add-one}
 use native.Mathlib.Omega.{arith}
 use borrow.Author.Tests.{leb-true, leb-false}
 use lib.Dec.{leb}
-use lib.ListN.{length, take, drop, set, getD, length-append, length-drop}
-use lib.Seq.{take-all, length-take-le, getD-append-add, getD-drop, paste, paste-suc}
+use lib.ListN.{length, take, drop, set, getD, length-drop}
+use lib.Seq.{take-all, length-take-le, getD-append-add, getD-drop, paste-suc}
 use Rattle.layout.specs.Answer.{pick}
-use Rattle.listing.specs.Turn.{unlisted, fronted, Kept}
+use Rattle.listing.specs.Turn.{unlisted, Kept}
 use Rattle.listing.proofs.Windows.{part-from}
 
 -- ── bounds that are cut to the window ──

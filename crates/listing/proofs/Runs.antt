@@ -6,7 +6,7 @@
 use mathlib.Core.Path.{_≡_, refl, sym, ap, _∙_}
 use mathlib.Core.Bool.{Bool, true, false}
 use mathlib.Core.List.{List, [], _∷_, _++_, append-assoc, append-nil}
-use mathlib.Core.Option.{Option, some, none}
+use mathlib.Core.Option.{some}
 use Prim.Native.Nat.{ℕ, zero, suc, _+_, _*_, _-_, _%_, _^_, _≤_, _<_}
 use native.Mathlib.Nat.{not-suc-le-zero}
 use native.Mathlib.Omega.{arith}
@@ -18,15 +18,15 @@ use Rattle.layout.specs.Answer.{Answer, got, refused, pick}
 use Rattle.layout.proofs.laws.Accepted.{Accepts}
 use Rattle.layout.proofs.laws.Tidied.{zero-one}
 use Rattle.recording.specs.Content.{Record}
-use Rattle.recording.specs.Record.{limit, recordOf}
+use Rattle.recording.specs.Record.{recordOf}
 use Rattle.recording.proofs.laws.Rowed.{Stands, record-stands}
 use Rattle.listing.specs.declared.Tally.{Tally}
 use Rattle.listing.specs.declared.turn.Stage.the-variants as stage
 use Rattle.listing.specs.declared.turn.Next.the-variants as next
 use Rattle.listing.specs.declared.turn.Stand.{Stand}
-use Rattle.listing.specs.Lines.{heading, ending}
+use Rattle.listing.specs.Lines.{ending}
 use Rattle.listing.specs.Listing.{remaining, listing}
-use Rattle.listing.specs.Window.{lineRoom, Windowed, rests, waits, windowOf}
+use Rattle.listing.specs.Window.{lineRoom, Windowed, waits, windowOf}
 use Rattle.listing.specs.Turn.{size, unlisted, fronted, stood, fresh, tallied, closes, goesOn, asks, linesTurn, Turned, turnOf}
 use Rattle.listing.specs.Run.{whole, Came, readOf, filled, goOn, onto, printed}
 use Rattle.listing.proofs.Windows.{window-used, window-waits, window-step}

@@ -18,7 +18,6 @@ use Rattle.listing.specs.declared.turn.Turn.{Turn}
 use Rattle.listing.specs.declared.turn.Stand.{Stand}
 use Rattle.listing.specs.declared.turn.Stage.{Stage}
 use Rattle.listing.specs.declared.turn.Stage.the-variants as stage
-use Rattle.listing.specs.declared.turn.Next.{Next}
 use Rattle.listing.specs.declared.turn.Next.the-variants as next
 use Rattle.listing.specs.Window.{Windowed, windowOf, Lists}
 use Rattle.listing.specs.Turn.{size, unlisted, fronted, Kept, stood, closes, goesOn, asks, byListed, linesTurn, turnAt, Turned, turnOf, turned, Turns}

@@ -1,6 +1,5 @@
 -- `listing::write_heading`: the room's test, then the text. Assumes nothing.
 use mathlib.Core.Path.{refl}
-use native.Mathlib.Omega.{arith}
 use Rattle.layout.proofs.laws.Writing.{no-room, done}
 use Rattle.listing.specs.Lines.{heading}
 use borrow.Author.Needs.{needs}

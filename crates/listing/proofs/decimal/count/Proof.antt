@@ -4,7 +4,6 @@ use native.Mathlib.Nat.{zero-add, add-assoc}
 use native.Mathlib.Omega.{arith}
 use Rattle.io.specs.Digits.{Fewest}
 use Rattle.listing.proofs.Spelling.{four-more}
-use borrow.Author.Needs.{needs}
 use Rattle.listing.proofs.decimal.count.Statement.{statement}
 use Rattle.listing.proofs.decimal.count.Tie as tie
 

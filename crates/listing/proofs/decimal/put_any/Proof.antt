@@ -1,9 +1,7 @@
 -- `listing::decimal::put_any`: the digits that were counted are the decimal, whole where it has room. Assumes nothing.
 use mathlib.Core.Path.{ap, _∙_}
-use Prim.Native.Nat.{_+_}
 use native.Mathlib.Omega.{arith}
 use denote.Ref.{now}
-use lib.ListN.{length}
 use Rattle.layout.specs.Written.{put}
 use Rattle.layout.proofs.laws.Writing.{in-room, out-of-room, nothing}
 use Rattle.listing.specs.Lines.{decimal}

@@ -7,7 +7,6 @@ use lib.ListN.{length, length-set}
 use Rattle.io.specs.Digits.{digits}
 use Rattle.layout.specs.Written.{put}
 use Rattle.listing.proofs.Spelling.{spelled-one, spelled-two}
-use borrow.Author.Needs.{needs}
 use Rattle.listing.proofs.decimal.spell.Statement.{statement}
 use Rattle.listing.proofs.decimal.spell.Tie as tie
 

@@ -1,5 +1,4 @@
 -- `listing::line::put_heading`: one store, which has room. Assumes nothing.
-use native.Mathlib.Omega.{arith}
 use Rattle.layout.proofs.laws.Stored.{first}
 use Rattle.listing.specs.Lines.{heading}
 use borrow.Author.Needs.{needs}

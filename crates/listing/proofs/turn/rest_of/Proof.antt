@@ -1,6 +1,5 @@
 -- `listing::turn::rest_of`: bounds that are cut to the window give the same part. Assumes nothing.
 use mathlib.Core.Path.{_∙_}
-use native.Mathlib.Omega.{arith}
 use Prim.Native.Nat.{_≤_}
 use denote.Ref.{now}
 use Rattle.listing.proofs.Held.{end-within, start-within, begun-is, unlisted-is}
