@@ -17,7 +17,7 @@ use Rattle.wire.specs.Newer.{newerOf, newerPart}
 use Rattle.wire.specs.Property.{propertyAt, propertyIn}
 use Rattle.wire.specs.Worded.{Worded, ends, valuesOf, Picks}
 use Rattle.wire.specs.declared.later.Chosen.{Chosen}
-use Rattle.wire.specs.declared.property.PropInfo.{PropInfo}
+use Rattle.wire.specs.Description.{PropInfo}
 use Rattle.wire.specs.declared.property.Slot.{Slot}
 use Rattle.wire.proofs.laws.Nths.{nths}
 use Rattle.wire.proofs.laws.Picked.{picks}

@@ -9,9 +9,8 @@ use Rattle.session.specs.Search.{Reply, payload, response}
 use Rattle.wire.specs.Layout.{int, nat, pair}
 use Rattle.wire.specs.Places.{Located, number-is, items, units, empty}
 use Rattle.wire.specs.declared.later.Chosen.{Chosen}
-use Rattle.wire.specs.declared.property.Form.{Form}
-use Rattle.wire.specs.declared.property.Form.the-variants as form
-use Rattle.wire.specs.declared.property.PropInfo.{PropInfo}
+use Rattle.wire.specs.Description.{Form, PropInfo}
+use Rattle.wire.specs.Description as form
 use Rattle.wire.specs.declared.property.Slot.{Slot}
 
 -- ── the datasets, field by field ──
@@ -31,9 +30,9 @@ fieldsRow (l ∷ ls) = fieldRow l ++ fieldsRow ls
 
 -- 0: no form; 1: minimum, maximum and step; 2: the bytes of all values of a list, and how many values they are
 abbrev pub formRow : Form → List ℕ
-formRow form.Absent = 0 ∷ 0 ∷ 0 ∷ 0 ∷ 0 ∷ 0 ∷ 0 ∷ []
-formRow (form.Range a b c) = 1 ∷ a .start ∷ a .len ∷ b .start ∷ b .len ∷ c .start ∷ c .len ∷ []
-formRow (form.List p n) = 2 ∷ p .start ∷ p .len ∷ n ∷ 0 ∷ 0 ∷ 0 ∷ []
+formRow form.absent = 0 ∷ 0 ∷ 0 ∷ 0 ∷ 0 ∷ 0 ∷ 0 ∷ []
+formRow (form.range a b c) = 1 ∷ a .start ∷ a .len ∷ b .start ∷ b .len ∷ c .start ∷ c .len ∷ []
+formRow (form.list p n) = 2 ∷ p .start ∷ p .len ∷ n ∷ 0 ∷ 0 ∷ 0 ∷ []
 
 abbrev pub propRow : PropInfo → List ℕ
 propRow x =

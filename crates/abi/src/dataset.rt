@@ -6,7 +6,7 @@ ghost use Rattle.wire.specs.Device.{deviceFields};
 ghost use Rattle.wire.specs.Layout.{device, object, storage};
 ghost use Rattle.wire.specs.Object.{objectFields};
 ghost use Rattle.wire.specs.Places.{rowAt};
-ghost use Rattle.wire.specs.Property.{propertyAt};
+ghost use Rattle.wire.specs.Property.{propertyAt, saysForm, infoFrom};
 ghost use Rattle.wire.specs.Storage.{storageFields};
 ghost use Rattle.abi.specs.Answered.{Gives, given};
 ghost use Rattle.abi.specs.Rows.{fieldsRow, formRow, propRow};
@@ -154,7 +154,7 @@ pub extern "C" fn ptp_storage_info(s: &[u8], out: &mut [u64]) -> u64
 
 // The form, and three parts: those of a range; or a list's bytes and the count of its values.
 fn form_row(f: Form) -> [u64; 7]
-    ensures { λ r. ⌜ r ≡ formRow f ⌝ }
+    ensures { λ r. ⌜ r ≡ formRow (saysForm f) ⌝ }
 {
     match f {
         Form::Absent => [0, 0, 0, 0, 0, 0, 0],
@@ -172,7 +172,7 @@ fn form_row(f: Form) -> [u64; 7]
 }
 
 fn prop_row(x: PropInfo, len: usize) -> [u64; 16]
-    ensures { λ r. ⌜ r ≡ len ∷ propRow x ⌝ }
+    ensures { λ r. ⌜ r ≡ len ∷ propRow (infoFrom x) ⌝ }
 {
     let form = x.form;
     let f = form_row(form);

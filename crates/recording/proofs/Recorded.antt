@@ -9,7 +9,7 @@ use borrow.Author.Tests.{le-leb, lt-leb, leb-true}
 use lib.Dec.{leb}
 use lib.ListN.{length, take, drop, length-append}
 use lib.Seq.{take-length}
-use Rattle.layout.specs.Answer.{Answer, Told, got, refused, bare, pick, means, endAt}
+use Rattle.layout.specs.Answer.{Told, got, refused, bare, pick, means, endAt}
 use Rattle.layout.specs.Bytes.{bytes, number}
 use Rattle.layout.specs.Written.{says, no, saidOf, Put, roomed}
 use Rattle.layout.proofs.laws.Accepted.{accepted, accepts-field}

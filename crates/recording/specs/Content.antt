@@ -4,6 +4,7 @@ use Prim.Native.Nat.{ℕ}
 use Rattle.wire.specs.declared.Part.{Part}
 use Rattle.wire.specs.declared.container.Container.{Container}
 
+-- any bytes, or one container that fills the body
 pub data Content : Type 0 where
   note : Content
   holds : Container → Content

@@ -14,10 +14,9 @@ use Rattle.layout.proofs.laws.Local.{repeated-local, alone}
 use Rattle.layout.proofs.laws.Meets.{lies-after}
 use Rattle.layout.proofs.laws.Reading.{means-means, means-same}
 use Rattle.layout.proofs.laws.Tidied.{zero-one}
-use Rattle.wire.specs.declared.property.PropInfo.{PropInfo}
+use Rattle.wire.specs.Description.{PropInfo}
 use Rattle.wire.specs.declared.property.Slot.{Slot}
-use Rattle.wire.specs.declared.property.Form as F
-use Rattle.wire.specs.declared.property.Form.the-variants as code
+use Rattle.wire.specs.Description as placed
 use Rattle.wire.specs.Layout.{Val, shape, Form, range, list, reading}
 use Rattle.wire.specs.Codecs.{value, row, three, listed, formed, form, property}
 use Rattle.wire.specs.Places.{numAt, Located, valueAt, shapeIn, shapeParts}
@@ -86,11 +85,11 @@ unfolding listAt valuesAt after means
 list-means t s p = go (numAt 2 s p)
   where
     inner : (n start : ℕ) (x : Answer (List Val)) → (repeated n (value t)) .read s start ≡ x
-        → means (formIn t s) (after (after x λ _ next. got (between start next) next) λ bytes next. got (code.List bytes n) next) ≡ means list x
+        → means (formIn t s) (after (after x λ _ next. got (between start next) next) λ bytes next. got (placed.list bytes n) next) ≡ means list x
     inner n start (got vs m) e = ap (λ us. got (list us) m) (values-in t n s start vs m e)
     inner n start (refused u) e = refl
 
-    go : (x : Answer ℕ) → means (formIn t s) (after x λ n start. after (after ((repeated n (value t)) .read s start) λ _ next. got (between start next) next) λ bytes next. got (code.List bytes n) next)
+    go : (x : Answer ℕ) → means (formIn t s) (after x λ n start. after (after ((repeated n (value t)) .read s start) λ _ next. got (between start next) next) λ bytes next. got (placed.list bytes n) next)
         ≡ means list (after x λ n m. (repeated n (value t)) .read s m)
     go (got n start) = inner n start ((repeated n (value t)) .read s start) refl
     go (refused u) = refl
@@ -99,13 +98,13 @@ form-means : (t : ℕ) (s : List ℕ) (p : ℕ) → means (formIn t s) (formAt t
 unfolding formAt after means
 form-means t s p = go (numAt 1 s p)
   where
-    by : (b q : ℕ) → means (formIn t s) (pick (eqb b 1) (rangeAt t s q) (pick (eqb b 2) (listAt t s q) (got code.Absent q))) ≡ (formed t b) .read s q
+    by : (b q : ℕ) → means (formIn t s) (pick (eqb b 1) (rangeAt t s q) (pick (eqb b 2) (listAt t s q) (got placed.absent q))) ≡ (formed t b) .read s q
     by zero q = refl
     by (suc zero) q = range-means t s q
     by (suc (suc zero)) q = list-means t s q
     by (suc (suc (suc n))) q = rw (ne-eqb (suc (suc (suc n))) 1 (λ e. omega arith), ne-eqb (suc (suc (suc n))) 2 (λ e. omega arith))
 
-    go : (x : Answer ℕ) → means (formIn t s) (after x λ b q. pick (eqb b 1) (rangeAt t s q) (pick (eqb b 2) (listAt t s q) (got code.Absent q))) ≡ after x (λ b q. (formed t b) .read s q)
+    go : (x : Answer ℕ) → means (formIn t s) (after x λ b q. pick (eqb b 1) (rangeAt t s q) (pick (eqb b 2) (listAt t s q) (got placed.absent q))) ≡ after x (λ b q. (formed t b) .read s q)
     go (got b q) = by b q
     go (refused u) = refl
 
@@ -191,10 +190,10 @@ values-lie t m s at = go ((repeated m (value t)) .read s at) (values-from t m s 
     go (got vs n) f = let h = f vs n refl in lies (between at n) n h (omega arith, omega arith, omega arith, tt)
     go (refused u) f = nowhere
 
-abbrev pub form-parts : F.Form → List (ℕ × ℕ)
-form-parts (code.Range a b c) = extent a ∷ extent b ∷ extent c ∷ []
-form-parts (code.List p n) = extent p ∷ []
-form-parts code.Absent = []
+abbrev pub form-parts : placed.Form → List (ℕ × ℕ)
+form-parts (placed.range a b c) = extent a ∷ extent b ∷ extent c ∷ []
+form-parts (placed.list p n) = extent p ∷ []
+form-parts placed.absent = []
 
 form-lies : (t : ℕ) (s : List ℕ) (at : ℕ) → Lies form-parts at (formAt t s at)
 unfolding formAt rangeAt listAt
@@ -213,11 +212,11 @@ form-lies t s at = lies-after _ (num-lies 1 s at) λ b p h _. by b p h
         lies-after _ (values-lie t n s q) λ _ next j k.
         lies _ next (omega arith) (omega arith, omega arith, omega arith, tt)
 
-    by : (b p : ℕ) → at ≤ p → Lies form-parts at (pick (eqb b 1) (rangeAt t s p) (pick (eqb b 2) (listAt t s p) (got code.Absent p)))
-    by zero p h = lies code.Absent p h tt
+    by : (b p : ℕ) → at ≤ p → Lies form-parts at (pick (eqb b 1) (rangeAt t s p) (pick (eqb b 2) (listAt t s p) (got placed.absent p)))
+    by zero p h = lies placed.absent p h tt
     by (suc zero) p h = ranges p h
     by (suc (suc zero)) p h = lists p h
-    by (suc (suc (suc n))) p h = rw (ne-eqb (suc (suc (suc n))) 1 (λ e. omega arith), ne-eqb (suc (suc (suc n))) 2 (λ e. omega arith)) (lies code.Absent p h tt)
+    by (suc (suc (suc n))) p h = rw (ne-eqb (suc (suc (suc n))) 1 (λ e. omega arith), ne-eqb (suc (suc (suc n))) 2 (λ e. omega arith)) (lies placed.absent p h tt)
 
 -- the parts of a description
 abbrev pub property-parts : PropInfo → List (ℕ × ℕ)

@@ -22,10 +22,9 @@ use Rattle.layout.proofs.laws.Numbers.{Bytes-take, Bytes-drop}
 use Rattle.layout.proofs.laws.Tidied.{zero-one}
 use Rattle.layout.proofs.laws.Words.{fits, part-there}
 use Rattle.layout.proofs.laws.Meets.{kept}
-use Rattle.wire.specs.declared.property.PropInfo.{PropInfo}
+use Rattle.wire.specs.Description.{PropInfo}
 use Rattle.wire.specs.declared.property.Slot.{Slot}
-use Rattle.wire.specs.declared.property.Form as F
-use Rattle.wire.specs.declared.property.Form.the-variants as code
+use Rattle.wire.specs.Description as placed
 use Rattle.wire.specs.Layout.{Val, Shape, one, many, string, undef, shape, Shaped, Value, Form, range, list, no-form, Formed, Reading, Property}
 use Rattle.wire.specs.Codecs.{property}
 use Rattle.wire.specs.Property.{bytesOf, filling, none-of, slotIn, valuesIn, formIn, propertyIn, propertyAt}
@@ -116,10 +115,10 @@ module _ (s : List ℕ) (h : Bytes s) where
   values-pinned t n m p from w = pinned (repeat-format n (value-format t)) p from (none-of (shape t) ∷ []) (some-values t m (w .0) (valuesIn t s p n) (w .1))
 
   module _ (n : ℕ) (within : n ≤ length s) where
-    form-pinned : (t : ℕ) (f : F.Form) → Inside 0 n (form-parts f) → FormSpelled t (formIn t s f) → WordedForm t s f (formIn t s f)
-    form-pinned t (code.Range a b c) i (of-range u v w) = a-range (slot-pinned t a (omega arith) u) (slot-pinned t b (omega arith) v) (slot-pinned t c (omega arith) w)
-    form-pinned t (code.List p k) i (of-list m w) = a-list (values-pinned t k m p (omega arith) w)
-    form-pinned t code.Absent i of-none = absent
+    form-pinned : (t : ℕ) (f : placed.Form) → Inside 0 n (form-parts f) → FormSpelled t (formIn t s f) → WordedForm t s f (formIn t s f)
+    form-pinned t (placed.range a b c) i (of-range u v w) = a-range (slot-pinned t a (omega arith) u) (slot-pinned t b (omega arith) v) (slot-pinned t c (omega arith) w)
+    form-pinned t (placed.list p k) i (of-list m w) = a-list (values-pinned t k m p (omega arith) w)
+    form-pinned t placed.absent i of-none = absent
 
   pub settled : (y : Answer PropInfo) → Kept Property property (propertyIn s) property-parts s y → (x : PropInfo) (n : ℕ) → y ≡ got x n → WordedProperty s x (propertyIn s x)
   settled y k x n e =

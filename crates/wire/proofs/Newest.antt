@@ -9,7 +9,7 @@ use lib.ListN.{length}
 use Rattle.layout.specs.Answer.{Answer, got, refused, pick}
 use Rattle.layout.specs.Bytes.{Bytes}
 use Rattle.wire.specs.declared.later.Chosen.{Chosen}
-use Rattle.wire.specs.declared.property.PropInfo.{PropInfo}
+use Rattle.wire.specs.Description.{PropInfo}
 use Rattle.wire.specs.Newer.{fills, fresh, present, newerFrom, newerOf}
 use Rattle.wire.specs.Property.{propertyAt}
 use Rattle.wire.proofs.Held.{held}

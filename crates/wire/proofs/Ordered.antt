@@ -13,9 +13,8 @@ use Rattle.layout.specs.Codec.{repeated}
 use Rattle.layout.proofs.laws.Local.{repeated-local, alone}
 use Rattle.layout.proofs.laws.Make.{Spanned, short, spanned, there}
 use Rattle.layout.proofs.laws.Tidied.{zero-one}
-use Rattle.wire.specs.declared.property.PropInfo.{PropInfo}
-use Rattle.wire.specs.declared.property.Form as F
-use Rattle.wire.specs.declared.property.Form.the-variants as code
+use Rattle.wire.specs.Description.{PropInfo}
+use Rattle.wire.specs.Description as placed
 use Rattle.wire.specs.Layout.{Val}
 use Rattle.wire.specs.Codecs.{value}
 use Rattle.wire.specs.Places.{numAt}
@@ -54,18 +53,18 @@ module _ (s : List ℕ) where
   unfolding formAt rangeAt listAt
   form-order t at = when-after _ (number-ends 1 at) λ b p i. by b p i
     where
-      by : (b p : ℕ) → p ≡ at + 1 → When (λ f n. FormInOrder at n f) (pick (eqb b 1) (rangeAt t s p) (pick (eqb b 2) (listAt t s p) (got code.Absent p)))
-      by zero p i = when code.Absent p i
+      by : (b p : ℕ) → p ≡ at + 1 → When (λ f n. FormInOrder at n f) (pick (eqb b 1) (rangeAt t s p) (pick (eqb b 2) (listAt t s p) (got placed.absent p)))
+      by zero p i = when placed.absent p i
       by (suc zero) p i =
           when-after _ (values-end t 1 p) λ x a u.
           when-after _ (values-end t 1 a) λ y b v.
           when-after _ (values-end t 1 b) λ z n w.
-          when (code.Range x y z) n (u .0 ∙ i, v .0 ∙ u .1, w .0 ∙ v .1, w .1)
+          when (placed.range x y z) n (u .0 ∙ i, v .0 ∙ u .1, w .0 ∙ v .1, w .1)
       by (suc (suc zero)) p i =
           when-after _ (number-ends 2 p) λ n q j.
           when-after _ (values-end t n q) λ y m w.
-          when (code.List y n) m (omega (arith, w .0, i, j), w .1)
-      by (suc (suc (suc n))) p i = rw (ne-eqb (suc (suc (suc n))) 1 (λ e. omega arith), ne-eqb (suc (suc (suc n))) 2 (λ e. omega arith)) (when code.Absent p i)
+          when (placed.list y n) m (omega (arith, w .0, i, j), w .1)
+      by (suc (suc (suc n))) p i = rw (ne-eqb (suc (suc (suc n))) 1 (λ e. omega arith), ne-eqb (suc (suc (suc n))) 2 (λ e. omega arith)) (when placed.absent p i)
 
   property-order : When (λ x n. InOrder x n) (propertyAt s 0)
   unfolding propertyAt

@@ -15,9 +15,8 @@ use Rattle.layout.proofs.laws.Numbers.{length-bytes}
 use Rattle.layout.proofs.laws.Tidied.{Shrinks, nothing-shrinks, number-shrinks, then-shrinks, as-shrinks, count-shrinks, shrunk, zero-one}
 use borrow.Author.Tests.{ne-eqb}
 use lib.Dec.{eqb}
-use Rattle.wire.specs.declared.property.PropInfo.{PropInfo}
-use Rattle.wire.specs.declared.property.Form as F
-use Rattle.wire.specs.declared.property.Form.the-variants as code
+use Rattle.wire.specs.Description.{PropInfo}
+use Rattle.wire.specs.Description as placed
 use Rattle.wire.specs.Layout.{Val, shape, Row, Form, Formed, form-byte, FormOf, reading, Fields, Property, Value}
 use Rattle.wire.specs.Codecs.{value, row, three, listed, formed, form, fields, property}
 use Rattle.wire.specs.Places.{numAt}
@@ -83,11 +82,11 @@ form-well : (t : ℕ) (s : List ℕ) (at : ℕ) → Holds (WellForm t s) (formAt
 unfolding formAt rangeAt listAt
 form-well t s at = holds-after _ (anything (numAt 1 s at)) λ b p _. by b p
   where
-    by : (b p : ℕ) → Holds (WellForm t s) (pick (eqb b 1) (rangeAt t s p) (pick (eqb b 2) (listAt t s p) (got code.Absent p)))
-    by zero p = holds code.Absent p tt
-    by (suc zero) p = holds-after _ (values-taken t 1 s p) λ x a h. holds-after _ (values-taken t 1 s a) λ y b i. holds-after _ (values-taken t 1 s b) λ z n j. holds (code.Range x y z) n (h, i, j)
-    by (suc (suc zero)) p = holds-after _ (anything (numAt 2 s p)) λ n q _. holds-after _ (values-taken t n s q) λ y m h. holds (code.List y n) m h
-    by (suc (suc (suc n))) p = rw (ne-eqb (suc (suc (suc n))) 1 (λ e. omega arith), ne-eqb (suc (suc (suc n))) 2 (λ e. omega arith)) (holds code.Absent p tt)
+    by : (b p : ℕ) → Holds (WellForm t s) (pick (eqb b 1) (rangeAt t s p) (pick (eqb b 2) (listAt t s p) (got placed.absent p)))
+    by zero p = holds placed.absent p tt
+    by (suc zero) p = holds-after _ (values-taken t 1 s p) λ x a h. holds-after _ (values-taken t 1 s a) λ y b i. holds-after _ (values-taken t 1 s b) λ z n j. holds (placed.range x y z) n (h, i, j)
+    by (suc (suc zero)) p = holds-after _ (anything (numAt 2 s p)) λ n q _. holds-after _ (values-taken t n s q) λ y m h. holds (placed.list y n) m h
+    by (suc (suc (suc n))) p = rw (ne-eqb (suc (suc (suc n))) 1 (λ e. omega arith), ne-eqb (suc (suc (suc n))) 2 (λ e. omega arith)) (holds placed.absent p tt)
 
 property-well : (s : List ℕ) (at : ℕ) → Holds (Well s) (propertyAt s at)
 unfolding propertyAt
@@ -147,11 +146,11 @@ form-word : (t : ℕ) (s : List ℕ) (at : ℕ) → Holds (λ f. (form t) .write
 unfolding formAt rangeAt listAt formWord rangeWord listWord
 form-word t s at = holds-after _ (anything (numAt 1 s at)) λ b p _. by b p
   where
-    by : (b p : ℕ) → Holds (λ f. (form t) .write (formIn t s f) ≡ formWord t s f) (pick (eqb b 1) (rangeAt t s p) (pick (eqb b 2) (listAt t s p) (got code.Absent p)))
-    by zero p = holds code.Absent p (append-nil (bytes 1 0))
-    by (suc zero) p = holds-after _ (slot-word t s p) λ x a h. holds-after _ (slot-word t s a) λ y b i. holds-after _ (slot-word t s b) λ z n j. holds (code.Range x y z) n (rw (h, i, j) (simp append-assoc))
-    by (suc (suc zero)) p = holds-after _ (anything (numAt 2 s p)) λ n q _. holds-after _ (list-word t n s q) λ y m h. holds (code.List y n) m (rw h (simp append-assoc))
-    by (suc (suc (suc n))) p = rw (ne-eqb (suc (suc (suc n))) 1 (λ e. omega arith), ne-eqb (suc (suc (suc n))) 2 (λ e. omega arith)) (holds code.Absent p (append-nil (bytes 1 0)))
+    by : (b p : ℕ) → Holds (λ f. (form t) .write (formIn t s f) ≡ formWord t s f) (pick (eqb b 1) (rangeAt t s p) (pick (eqb b 2) (listAt t s p) (got placed.absent p)))
+    by zero p = holds placed.absent p (append-nil (bytes 1 0))
+    by (suc zero) p = holds-after _ (slot-word t s p) λ x a h. holds-after _ (slot-word t s a) λ y b i. holds-after _ (slot-word t s b) λ z n j. holds (placed.range x y z) n (rw (h, i, j) (simp append-assoc))
+    by (suc (suc zero)) p = holds-after _ (anything (numAt 2 s p)) λ n q _. holds-after _ (list-word t n s q) λ y m h. holds (placed.list y n) m (rw h (simp append-assoc))
+    by (suc (suc (suc n))) p = rw (ne-eqb (suc (suc (suc n))) 1 (λ e. omega arith), ne-eqb (suc (suc (suc n))) 2 (λ e. omega arith)) (holds placed.absent p (append-nil (bytes 1 0)))
 
 words : (s : List ℕ) (at : ℕ) → Holds (λ x. property .write (propertyIn s x) ≡ propertyWord s x) (propertyAt s at)
 unfolding propertyAt propertyWord headerWord

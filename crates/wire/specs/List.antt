@@ -10,10 +10,9 @@ use Rattle.layout.specs.Refusals.{PLACE}
 use Rattle.wire.specs.Places.{Located, valueAt}
 use Rattle.wire.specs.Says.{located}
 use Rattle.wire.specs.Property.{between, valuesAt, propertyAt}
-use Rattle.wire.specs.declared.property.PropInfo.{PropInfo}
 use Rattle.wire.specs.declared.property.Slot.{Slot}
-use Rattle.wire.specs.declared.property.Form.{Form}
-use Rattle.wire.specs.declared.property.Form.the-variants as form
+use Rattle.wire.specs.Description.{Form, PropInfo}
+use Rattle.wire.specs.Description as form
 use Rattle.wire.specs.declared.list.ReadNth.{ReadNth}
 use Rattle.wire.specs.declared.list.ReadNth.the-variants as readNth
 use Rattle.wire.specs.declared.list.Place.{Place}
@@ -31,9 +30,9 @@ unfoldable pub nthValue : ℕ → ℕ → Reader (Located × Slot)
 nthValue t n s start = after (valuesAt t n s start) λ _ at. valueSlot t s at
 
 unfoldable pub nthIn : ℕ → ℕ → Form → List ℕ → Answer (Located × Slot)
-nthIn n t (form.List p count) s = pick (ltb n count) (nthValue t n s (p .start)) (refused (bare PLACE))
-nthIn n t (form.Range a b c) s = refused (bare PLACE)
-nthIn n t form.Absent s = refused (bare PLACE)
+nthIn n t (form.list p count) s = pick (ltb n count) (nthValue t n s (p .start)) (refused (bare PLACE))
+nthIn n t (form.range a b c) s = refused (bare PLACE)
+nthIn n t form.absent s = refused (bare PLACE)
 
 unfoldable pub nthAt : ℕ → List ℕ → Answer (Located × Slot)
 nthAt n s = after (propertyAt s 0) λ x _. nthIn n (x .«data_type») (x .form) s
@@ -46,9 +45,9 @@ saysNth (readNth.Refused t) = refused t
 
 -- no list, or a refused description, leaves none
 abbrev pub placeIn : ℕ → Form → Place
-placeIn t (form.List p count) = record { ty = t; at = p .start; left = count; refusal = 0 }
-placeIn t (form.Range a b c) = record { ty = t; at = 0; left = 0; refusal = 0 }
-placeIn t form.Absent = record { ty = t; at = 0; left = 0; refusal = 0 }
+placeIn t (form.list p count) = record { ty = t; at = p .start; left = count; refusal = 0 }
+placeIn t (form.range a b c) = record { ty = t; at = 0; left = 0; refusal = 0 }
+placeIn t form.absent = record { ty = t; at = 0; left = 0; refusal = 0 }
 
 abbrev pub placeFrom : Answer PropInfo → Place
 placeFrom (got x n) = placeIn (x .«data_type») (x .form)

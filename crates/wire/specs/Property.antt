@@ -10,9 +10,11 @@ use Rattle.wire.specs.Layout.{Shape, one, many, string, undef, shape, Va
 use Rattle.wire.specs.Codecs.{value}
 use Rattle.wire.specs.Places.{numAt}
 use Rattle.wire.specs.declared.property.Slot.{Slot}
-use Rattle.wire.specs.declared.property.Form as F
-use Rattle.wire.specs.declared.property.Form.the-variants as form
-use Rattle.wire.specs.declared.property.PropInfo.{PropInfo}
+use Rattle.wire.specs.Description as form
+use Rattle.wire.specs.Description.{PropInfo}
+use Rattle.wire.specs.declared.property.Form as declared
+use Rattle.wire.specs.declared.property.Form.the-variants as variants
+use Rattle.wire.specs.declared.property.PropInfo as declared-info
 use Rattle.wire.specs.declared.property.ReadProperty.{ReadProperty}
 use Rattle.wire.specs.declared.property.ReadProperty.the-variants as readProperty
 
@@ -31,24 +33,24 @@ valuesAt t n s at = after ((repeated n (value t)) .read s at) λ _ next. got (be
 abbrev pub slotAt : ℕ → Reader Slot
 slotAt t = valuesAt t 1
 
-unfoldable pub rangeAt : ℕ → Reader F.Form
+unfoldable pub rangeAt : ℕ → Reader form.Form
 rangeAt t s at =
     after (slotAt t s at) λ low a.
     after (slotAt t s a) λ high b.
     after (slotAt t s b) λ step next.
-    got (form.Range low high step) next
+    got (form.range low high step) next
 
-unfoldable pub listAt : ℕ → Reader F.Form
+unfoldable pub listAt : ℕ → Reader form.Form
 listAt t s at =
     after (numAt 2 s at) λ n start.
     after (valuesAt t n s start) λ bytes next.
-    got (form.List bytes n) next
+    got (form.list bytes n) next
 
 -- by the form byte
-unfoldable pub formAt : ℕ → Reader F.Form
+unfoldable pub formAt : ℕ → Reader form.Form
 formAt t s at =
     after (numAt 1 s at) λ b p.
-    pick (eqb b 1) (rangeAt t s p) (pick (eqb b 2) (listAt t s p) (got form.Absent p))
+    pick (eqb b 1) (rangeAt t s p) (pick (eqb b 2) (listAt t s p) (got form.absent p))
 
 -- field by field, in the layout's order
 unfoldable pub propertyAt : Reader PropInfo
@@ -72,8 +74,24 @@ propertyAt s at =
     })
     next
 
+abbrev pub saysForm : declared.Form → form.Form
+saysForm variants.Absent = form.absent
+saysForm (variants.Range a b c) = form.range a b c
+saysForm (variants.List p n) = form.list p n
+
+abbrev pub infoFrom : declared-info.PropInfo → PropInfo
+infoFrom x = record {
+  «property_code» = x .«property_code»;
+  «data_type» = x .«data_type»;
+  «get_set» = x .«get_set»;
+  «is_enable» = x .«is_enable»;
+  «factory_default» = x .«factory_default»;
+  current = x .current;
+  form = saysForm (x .form);
+}
+
 abbrev pub saysProperty : ReadProperty → Answer PropInfo
-saysProperty (readProperty.Got v c) = got v (c .at)
+saysProperty (readProperty.Got v c) = got (infoFrom v) (c .at)
 saysProperty (readProperty.Refused t) = refused t
 
 -- ── what places mean ──
@@ -101,10 +119,10 @@ slotIn t s p = filling (p .len) (none-of (shape t)) ((value t) .read (bytesOf s 
 abbrev pub valuesIn : ℕ → List ℕ → Slot → ℕ → List Val
 valuesIn t s p n = filling (p .len) (none-of (shape t) ∷ []) ((repeated n (value t)) .read (bytesOf s p) 0)
 
-abbrev pub formIn : ℕ → List ℕ → F.Form → Form
-formIn t s (form.Range a b c) = range (slotIn t s a) (slotIn t s b) (slotIn t s c)
-formIn t s (form.List p n) = list (valuesIn t s p n)
-formIn t s form.Absent = no-form
+abbrev pub formIn : ℕ → List ℕ → form.Form → Form
+formIn t s (form.range a b c) = range (slotIn t s a) (slotIn t s b) (slotIn t s c)
+formIn t s (form.list p n) = list (valuesIn t s p n)
+formIn t s form.absent = no-form
 
 -- the reading that it has in the bytes
 abbrev pub propertyIn : List ℕ → PropInfo → Reading

@@ -16,9 +16,8 @@ use Rattle.wire.specs.declared.Part.{Part}
 use Rattle.wire.specs.declared.list.Step.{Step}
 use Rattle.wire.specs.declared.list.Values.{Values}
 use Rattle.wire.specs.declared.property.Slot.{Slot}
-use Rattle.wire.specs.declared.property.Form as F
-use Rattle.wire.specs.declared.property.Form.the-variants as form
-use Rattle.wire.specs.declared.property.PropInfo.{PropInfo}
+use Rattle.wire.specs.Description as form
+use Rattle.wire.specs.Description.{PropInfo}
 
 -- the part lies in s, and its bytes are a word of G, read as r
 pub record Worded {R : Type 0} (G : Grammar R) (s : List ℕ) (p : Slot) (r : R) : Type 0 where
@@ -50,11 +49,11 @@ pub data WordedRow (s : List ℕ) : List ℕ → ℕ → List Located → List V
 
 -- ── a description's own parts ──
 
-pub data WordedForm (t : ℕ) (s : List ℕ) : F.Form → Form → Type 0 where
-  a-range : {a b c : Slot} {x y z : Val} → Worded (Value t) s a x → Worded (Value t) s b y → Worded (Value t) s c z → WordedForm t s (form.Range a b c) (range x y z)
+pub data WordedForm (t : ℕ) (s : List ℕ) : form.Form → Form → Type 0 where
+  a-range : {a b c : Slot} {x y z : Val} → Worded (Value t) s a x → Worded (Value t) s b y → Worded (Value t) s c z → WordedForm t s (form.range a b c) (range x y z)
   -- as many values as the answer says
-  a-list : {p : Slot} {n : ℕ} {vs : List Val} → Worded (Repeat n (Value t)) s p vs → WordedForm t s (form.List p n) (list vs)
-  absent : WordedForm t s form.Absent no-form
+  a-list : {p : Slot} {n : ℕ} {vs : List Val} → Worded (Repeat n (Value t)) s p vs → WordedForm t s (form.list p n) (list vs)
+  absent : WordedForm t s form.absent no-form
 
 -- the answer x says the reading r: its numbers are r's, and its parts are words with r's values
 pub record WordedProperty (s : List ℕ) (x : PropInfo) (r : Reading) : Type 0 where
@@ -71,10 +70,10 @@ abbrev pub ends : Slot → ℕ
 ends p = p .start + p .len
 
 -- from the place of the form byte up to n, the place after the whole
-abbrev pub FormInOrder : ℕ → ℕ → F.Form → Type 0
-FormInOrder at n (form.Range a b c) = (a .start ≡ at + 1) × (b .start ≡ ends a) × (c .start ≡ ends b) × (n ≡ ends c)
-FormInOrder at n (form.List p count) = (p .start ≡ at + 3) × (n ≡ ends p)
-FormInOrder at n form.Absent = n ≡ at + 1
+abbrev pub FormInOrder : ℕ → ℕ → form.Form → Type 0
+FormInOrder at n (form.range a b c) = (a .start ≡ at + 1) × (b .start ≡ ends a) × (c .start ≡ ends b) × (n ≡ ends c)
+FormInOrder at n (form.list p count) = (p .start ≡ at + 3) × (n ≡ ends p)
+FormInOrder at n form.absent = n ≡ at + 1
 
 -- the parts follow each other, behind the four numbers, without a gap
 pub record InOrder (x : PropInfo) (n : ℕ) : Type 0 where
@@ -96,8 +95,8 @@ pub record Nth (t : ℕ) (s : List ℕ) (all : Slot) (vs : List Val) (k : ℕ) (
   pub after : n ≡ p .start + p .len
 
 -- what is answered of the k-th, where the form f has the values vs: the k-th of them, or 12 past the last
-pub record Nths (t : ℕ) (s : List ℕ) (f : F.Form) (vs : List Val) (k : ℕ) (answer : Answer (Located × Slot)) : Type 0 where
-  pub found : k < length vs → (all : Slot) × (l : Located) × (p : Slot) × (n : ℕ) × (f ≡ form.List all (length vs)) × (answer ≡ got (l, p) n) × Nth t s all vs k l p n
+pub record Nths (t : ℕ) (s : List ℕ) (f : form.Form) (vs : List Val) (k : ℕ) (answer : Answer (Located × Slot)) : Type 0 where
+  pub found : k < length vs → (all : Slot) × (l : Located) × (p : Slot) × (n : ℕ) × (f ≡ form.list all (length vs)) × (answer ≡ got (l, p) n) × Nth t s all vs k l p n
   pub past : length vs ≤ k → answer ≡ refused (bare PLACE)
 
 -- the list handed out, called again and again: each `next` gives the next of the values vs, `moved` moves the list behind it, and after the last comes the end

@@ -1,6 +1,7 @@
 // A description's list: its n-th value; and the list handed out, a step at a time.
 ghost use mathlib.Core.Path.{_≡_};
 ghost use Rattle.wire.specs.List.{nthIn, nthValue, valueSlot, nthAt, saysNth, placeIn, placeOf, stepAt, saysStep, listAt, Nexts, Moves};
+ghost use Rattle.wire.specs.Property.{saysForm};
 use crate::Cursor;
 use crate::Span;
 use crate::past;
@@ -48,7 +49,7 @@ fn nth_value(s: &[u8], code: u16, start: usize, n: usize) -> ReadNth
 }
 
 fn nth_of(f: Form, code: u16, s: &[u8], n: usize) -> ReadNth
-    ensures { λ r. ⌜ saysNth r ≡ nthIn n code f (now (s .entry)) ⌝ }
+    ensures { λ r. ⌜ saysNth r ≡ nthIn n code (saysForm f) (now (s .entry)) ⌝ }
 {
     match f {
         Form::List(p, count) => {
@@ -91,7 +92,7 @@ pub enum Step {
 }
 
 fn place_in(f: Form, ty: u16) -> Place
-    ensures { λ r. ⌜ r ≡ placeIn ty f ⌝ }
+    ensures { λ r. ⌜ r ≡ placeIn ty (saysForm f) ⌝ }
 {
     match f {
         Form::List(p, count) => Place {

@@ -2,7 +2,7 @@
 ghost use mathlib.Core.Path.{_≡_};
 ghost use Rattle.layout.specs.Answer.{after};
 ghost use Rattle.wire.specs.Says.{ran, here};
-ghost use Rattle.wire.specs.Property.{valuesAt, rangeAt, listAt, formAt, propertyAt, saysProperty};
+ghost use Rattle.wire.specs.Property.{valuesAt, rangeAt, listAt, formAt, propertyAt, saysForm, saysProperty};
 use crate::Cursor;
 use crate::Span;
 use crate::past;
@@ -81,7 +81,7 @@ impl Run {
     }
 
     fn range(self, s: &[u8], code: u16) -> RunForm
-        ensures { λ o. ⌜ ran (o .run) (o .v) ≡ after (here self) (λ _ p. rangeAt code (now (s .entry)) p) ⌝ }
+        ensures { λ o. ⌜ ran (o .run) (saysForm (o .v)) ≡ after (here self) (λ _ p. rangeAt code (now (s .entry)) p) ⌝ }
     {
         let low = self.values(s, code, 1);
         let high = low.run.values(s, code, 1);
@@ -97,7 +97,7 @@ impl Run {
     }
 
     fn list(self, s: &[u8], code: u16) -> RunForm
-        ensures { λ o. ⌜ ran (o .run) (o .v) ≡ after (here self) (λ _ p. listAt code (now (s .entry)) p) ⌝ }
+        ensures { λ o. ⌜ ran (o .run) (saysForm (o .v)) ≡ after (here self) (λ _ p. listAt code (now (s .entry)) p) ⌝ }
     {
         let count = self.number(s, 2);
         let n = count.v as u16;
@@ -112,7 +112,7 @@ impl Run {
 
     // The form byte, and what it announces.
     fn form(self, s: &[u8], code: u16) -> RunForm
-        ensures { λ o. ⌜ ran (o .run) (o .v) ≡ after (here self) (λ _ p. formAt code (now (s .entry)) p) ⌝ }
+        ensures { λ o. ⌜ ran (o .run) (saysForm (o .v)) ≡ after (here self) (λ _ p. formAt code (now (s .entry)) p) ⌝ }
     {
         let b = self.number(s, 1);
         if b.v == 1 {

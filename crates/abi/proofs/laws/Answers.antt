@@ -10,8 +10,8 @@ use Rattle.layout.specs.Written.{says, Wrote}
 use Rattle.layout.proofs.laws.Writing.{refusal}
 use Rattle.recording.specs.Content.{Content}
 use Rattle.recording.specs.Content as content
-use Rattle.wire.specs.declared.property.Form.{Form}
-use Rattle.wire.specs.declared.property.Form.the-variants as form
+use Rattle.wire.specs.Description.{Form}
+use Rattle.wire.specs.Description as form
 use Rattle.abi.specs.Answered.{given}
 use Rattle.abi.specs.Rows.{formRow, contentRow}
 
@@ -34,9 +34,9 @@ spread zero (x ∷ l) e = absurd (suc-ne-zero (length l) e)
 spread (suc n) (x ∷ l) e = ap (λ (k : List ℕ). x ∷ k) (spread n l (suc-inj e))
 
 pub form-long : (f : Form) → length (formRow f) ≡ 7
-form-long form.Absent = refl
-form-long (form.Range a b c) = refl
-form-long (form.List p n) = refl
+form-long form.absent = refl
+form-long (form.range a b c) = refl
+form-long (form.list p n) = refl
 
 pub content-long : (x : Content) → length (contentRow x) ≡ 5
 content-long content.note = refl

@@ -17,10 +17,9 @@ use Rattle.layout.proofs.laws.Make.{repeat-format, repeat-length}
 use Rattle.layout.proofs.laws.Tidied.{zero-one}
 use Rattle.wire.specs.declared.list.Step.{Step}
 use Rattle.wire.specs.declared.list.Values.{Values}
-use Rattle.wire.specs.declared.property.PropInfo.{PropInfo}
+use Rattle.wire.specs.Description.{PropInfo}
 use Rattle.wire.specs.declared.property.Slot.{Slot}
-use Rattle.wire.specs.declared.property.Form as F
-use Rattle.wire.specs.declared.property.Form.the-variants as form
+use Rattle.wire.specs.Description as form
 use Rattle.wire.specs.Layout.{Val, nil, shape, Value, list}
 use Rattle.wire.specs.Codecs.{value}
 use Rattle.wire.specs.Places.{Located}
@@ -118,11 +117,11 @@ module _ (s : List ℕ) (h : Bytes s) (x : PropInfo) (n : ℕ) (read : propertyA
   its = valuesOf ((propertyIn s x) .form)
 
   -- its list, if it has one
-  listed : (all : Slot) (count : ℕ) → x .form ≡ form.List all count
+  listed : (all : Slot) (count : ℕ) → x .form ≡ form.list all count
       → ((repeated count (value (x .«data_type»))) .read s (all .start) ≡ got its (all .start + all .len)) × (all .start ≤ length s) × (count ≡ length its)
   listed all count e = go (subst (λ f. WordedForm (x .«data_type») s f (formIn (x .«data_type») s f)) e ((held s h x n read) .form))
     where
-      go : WordedForm (x .«data_type») s (form.List all count) (list (valuesIn (x .«data_type») s all count))
+      go : WordedForm (x .«data_type») s (form.list all count) (list (valuesIn (x .«data_type») s all count))
           → ((repeated count (value (x .«data_type»))) .read s (all .start) ≡ got its (all .start + all .len)) × (all .start ≤ length s) × (count ≡ length its)
       go (a-list w) =
           let same : its ≡ valuesIn (x .«data_type») s all count = rw e in
@@ -133,22 +132,22 @@ module _ (s : List ℕ) (h : Bytes s) (x : PropInfo) (n : ℕ) (read : propertyA
   unfolding nthAt nthIn after
   nths k = go (x .form) refl
     where
-      go : (f : F.Form) → x .form ≡ f → Nths (x .«data_type») s (x .form) its k (nthAt k s)
-      go (form.List all count) e =
+      go : (f : form.Form) → x .form ≡ f → Nths (x .«data_type») s (x .form) its k (nthAt k s)
+      go (form.list all count) e =
           let r = listed all count e in
           let same : between (all .start) (all .start + all .len) ≡ all = ap (λ m. record { start = all .start; len = m }) (omega arith) in
           record {
             found = λ lt.
                 let a = nth-read (x .«data_type») s h k count (all .start) (omega (arith, r .2)) (r .1) its (all .start + all .len) (r .0) in
                 let there : nthAt k s ≡ nthValue (x .«data_type») k s (all .start) = rw (read, e, lt-ltb k count (omega (arith, r .2))) in
-                (all, a .0, a .1, a .2, e ∙ ap (form.List all) (r .2), there ∙ a .3, rw same at (a .4));
+                (all, a .0, a .1, a .2, e ∙ ap (form.list all) (r .2), there ∙ a .3, rw same at (a .4));
             past = λ le. rw (read, e, le-ltb k count (omega (arith, r .2)));
           }
-      go (form.Range a b c) e = record {
+      go (form.range a b c) e = record {
         found = λ lt. let none : its ≡ [] = rw e in let z : ⊥ = omega (arith, ap length none) in absurd z;
         past = λ le. rw (read, e);
       }
-      go form.Absent e = record {
+      go form.absent e = record {
         found = λ lt. let none : its ≡ [] = rw e in let z : ⊥ = omega (arith, ap length none) in absurd z;
         past = λ le. rw (read, e);
       }
@@ -159,13 +158,13 @@ module _ (s : List ℕ) (h : Bytes s) (x : PropInfo) (n : ℕ) (read : propertyA
       empty : placeOf s ≡ record { ty = x .«data_type»; at = 0; left = 0; refusal = 0 } → its ≡ [] → Yields (x .«data_type») s (listAt src (placeOf s)) its
       empty q none = rw (none, q) (steps-read (x .«data_type») s h 0 (listAt src (record { ty = x .«data_type»; at = 0; left = 0; refusal = 0 })) of refl refl refl (omega arith) [] 0 refl)
 
-      go : (f : F.Form) → x .form ≡ f → Yields (x .«data_type») s (listAt src (placeOf s)) its
-      go (form.List all count) e =
+      go : (f : form.Form) → x .form ≡ f → Yields (x .«data_type») s (listAt src (placeOf s)) its
+      go (form.list all count) e =
           let r = listed all count e in
           let q : placeOf s ≡ record { ty = x .«data_type»; at = all .start; left = count; refusal = 0 } = ap placeFrom read ∙ rw e in
           rw q (steps-read (x .«data_type») s h count (listAt src (record { ty = x .«data_type»; at = all .start; left = count; refusal = 0 })) of refl refl refl (r .1) its (all .start + all .len) (r .0))
-      go (form.Range a b c) e = empty (ap placeFrom read ∙ rw e) (rw e)
-      go form.Absent e = empty (ap placeFrom read ∙ rw e) (rw e)
+      go (form.range a b c) e = empty (ap placeFrom read ∙ rw e) (rw e)
+      go form.absent e = empty (ap placeFrom read ∙ rw e) (rw e)
 
 -- a refused description has no value
 module _ (s : List ℕ) (t : Told) (read : propertyAt s 0 ≡ refused t) where

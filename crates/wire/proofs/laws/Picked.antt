@@ -12,7 +12,7 @@ use Rattle.layout.specs.Answer.{Answer, got, refused, means}
 use Rattle.layout.specs.Bytes.{Bytes}
 use Rattle.layout.specs.Grammar.{loose}
 use Rattle.layout.proofs.laws.Tidied.{zero-one}
-use Rattle.wire.specs.declared.property.PropInfo.{PropInfo}
+use Rattle.wire.specs.Description.{PropInfo}
 use Rattle.wire.specs.Layout.{Val, shape, Value}
 use Rattle.wire.specs.Codecs.{value}
 use Rattle.wire.specs.Newer.{endsAt, fills, newerBytes}

@@ -27,6 +27,11 @@ use Rattle.wire.specs.declared.storage.StorageInfo.{StorageInfo}
 use Rattle.wire.specs.declared.device.ReadDevice.the-variants as readDevice
 use Rattle.wire.specs.declared.object.ReadObject.the-variants as readObject
 use Rattle.wire.specs.declared.storage.ReadStorage.the-variants as readStorage
+use Rattle.wire.specs.Description as form
+use Rattle.wire.specs.declared.property.Form as declared
+use Rattle.wire.specs.declared.property.Form.the-variants as variants
+use Rattle.wire.specs.declared.property.PropInfo as declared-info
+use Rattle.wire.specs.declared.property.ReadProperty.{ReadProperty}
 use Rattle.wire.specs.declared.property.ReadProperty.the-variants as readProperty
 use Rattle.wire.specs.declared.ReadPair.{ReadPair}
 use Rattle.wire.specs.declared.ReadPair.the-variants as readPair
@@ -47,7 +52,7 @@ use Rattle.wire.specs.Container.{saysHeader, saysContainer}
 use Rattle.wire.specs.Device.{saysDevice}
 use Rattle.wire.specs.Object.{saysObject}
 use Rattle.wire.specs.Storage.{saysStorage}
-use Rattle.wire.specs.Property.{saysProperty}
+use Rattle.wire.specs.Property.{saysForm, infoFrom, saysProperty}
 use Rattle.wire.specs.List.{Stepped, next, end, saysNth, saysStep}
 use Rattle.wire.specs.Tidy.{saysMeasured}
 
@@ -96,9 +101,6 @@ tells-header = read-tells saysHeader readHeader.Got readHeader.Refused elim [ re
 
 pub tells-container : Tells saysContainer
 tells-container = read-tells saysContainer readContainer.Got readContainer.Refused elim [ readContainer.Got v c ↦ refl | readContainer.Refused t ↦ refl ]
-
-pub tells-property : Tells saysProperty
-tells-property = read-tells saysProperty readProperty.Got readProperty.Refused elim [ readProperty.Got v c ↦ refl | readProperty.Refused t ↦ refl ]
 
 -- ── records: their fields by their places in the row ──
 
@@ -275,3 +277,40 @@ tells-step = retracts from-step step-back
     step-back : (r : Step) → from-step (saysStep r) ≡ r
     step-back (step.Next v at left) = ap (λ w. step.Next w at left) (back v)
     step-back step.End = refl
+
+-- ── a description ──
+
+from-form : form.Form → declared.Form
+from-form form.absent = variants.Absent
+from-form (form.range a b c) = variants.Range a b c
+from-form (form.list p n) = variants.List p n
+
+form-back : (f : declared.Form) → from-form (saysForm f) ≡ f
+unfolding from-form
+form-back variants.Absent = refl
+form-back (variants.Range a b c) = refl
+form-back (variants.List p n) = refl
+
+-- with another form
+abbrev with : form.PropInfo → declared.Form → declared-info.PropInfo
+with x f = record {
+  «property_code» = x .«property_code»;
+  «data_type» = x .«data_type»;
+  «get_set» = x .«get_set»;
+  «is_enable» = x .«is_enable»;
+  «factory_default» = x .«factory_default»;
+  current = x .current;
+  form = f;
+}
+
+from-property : Answer form.PropInfo → ReadProperty
+from-property (got x n) = readProperty.Got (with x (from-form (x .form))) (record { at = n })
+from-property (refused t) = readProperty.Refused t
+
+pub tells-property : Tells saysProperty
+unfolding from-property
+tells-property = retracts from-property property-back
+  where
+    property-back : (r : ReadProperty) → from-property (saysProperty r) ≡ r
+    property-back (readProperty.Got x c) = ap (λ f. readProperty.Got (with (infoFrom x) f) c) (form-back (x .form))
+    property-back (readProperty.Refused t) = refl
