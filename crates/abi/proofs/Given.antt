@@ -4,9 +4,8 @@
 use mathlib.Core.Path.{_≡_, refl, ap, _∙_}
 use mathlib.Core.List.{List, [], _∷_, _++_}
 use Prim.Native.Nat.{ℕ, _<_, _≤_}
-use native.Mathlib.Omega.{arith}
 use lib.ListN.{length, drop, getD}
-use Rattle.layout.specs.Answer.{Answer, got, refused, bare}
+use Rattle.layout.specs.Answer.{got, refused, bare}
 use Rattle.layout.specs.Bytes.{Bytes}
 use Rattle.layout.specs.Refusals.{PLACE}
 use Rattle.layout.specs.Written.{says, answerOf, leftOf}

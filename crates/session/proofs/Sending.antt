@@ -10,12 +10,10 @@ use borrow.Author.Tests.{leb-true, leb-false}
 use lib.Dec.{leb}
 use lib.ListN.{length, take, drop, length-append, length-drop, take-append-drop, drop-of-length-le}
 use lib.Seq.{take-all, length-take-le, take-append-seam, drop-at, drop-drop}
-use Rattle.layout.specs.Answer.{Told, Answer, got, refused, bare, pick}
-use Rattle.layout.specs.Written.{Said, says, no, Wrote, answerOf, leftOf, Put, roomed}
+use Rattle.layout.specs.Answer.{Told, got, refused, pick}
+use Rattle.layout.specs.Written.{Said, says, no, Wrote, Put, roomed}
 use Rattle.layout.proofs.laws.Did.{Whole, whole, Kept, not-due, too-short, kept}
-use Rattle.layout.proofs.laws.Tidied.{zero-one}
 use Rattle.layout.proofs.laws.Writing.{refusal, no-room, done, put-front, roomy}
-use Rattle.layout.specs.Refusals.{ROOM}
 use Rattle.session.specs.Transaction.{together}
 
 -- ── a part that was lent from a place on ──

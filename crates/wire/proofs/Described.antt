@@ -6,8 +6,8 @@ use Prim.Native.Nat.{ℕ, zero, suc, _+_, _-_, _≤_}
 use native.Mathlib.Omega.{arith}
 use borrow.Author.Tests.{ne-eqb, eq-eqb}
 use lib.Dec.{eqb}
-use lib.ListN.{length, replicate}
-use Rattle.layout.specs.Answer.{Told, Answer, got, refused, after, means, pick}
+use lib.ListN.{replicate}
+use Rattle.layout.specs.Answer.{Answer, got, refused, after, means, pick}
 use Rattle.layout.specs.Codec.{Codec, numbered, _and_, cons-write, repeated, through}
 use Rattle.layout.specs.Placed.{Inside, Placed, Lies, lies, nowhere}
 use Rattle.layout.proofs.laws.Local.{repeated-local, alone}

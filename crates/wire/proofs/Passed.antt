@@ -9,7 +9,7 @@ use lib.ListN.{take, drop}
 use Rattle.layout.specs.Answer.{Told, Answer, got, refused, after, means, spanAt, fieldAt}
 use Rattle.layout.specs.Bytes.{number}
 use Rattle.layout.specs.Codec.{repeated}
-use Rattle.layout.proofs.laws.Make.{Spanned, there, short, spanned, span-there}
+use Rattle.layout.proofs.laws.Make.{span-there}
 use Rattle.layout.proofs.laws.Reading.{cutAt, span-more}
 use Rattle.layout.proofs.laws.Tidied.{zero-one}
 use Rattle.wire.specs.Layout.{Kind, width, meaning, one, undef, shape, Val}

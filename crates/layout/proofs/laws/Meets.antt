@@ -1,16 +1,15 @@
 -- Every format meets the demand; and what a promise comes to, of a reader of places.
 -- Assumes nothing.
 use mathlib.Core.Path.{_≡_, ap, sym, _∙_, subst}
-use mathlib.Core.Logic.{_↔_}
-use mathlib.Core.List.{List, _++_}
+use mathlib.Core.List.{List}
 use Prim.Native.Nat.{ℕ, _≤_}
 use native.Mathlib.Omega.{arith}
-use lib.ListN.{length, take, drop}
+use lib.ListN.{length, take}
 use Rattle.layout.specs.Answer.{Answer, got, refused, Reader, after, means}
 use Rattle.layout.specs.Bytes.{Bytes}
 use Rattle.layout.specs.Codec.{Codec}
 use Rattle.layout.specs.Grammar.{tidy, Grammar}
-use Rattle.layout.specs.Written.{saidOf, tidied, Wrote}
+use Rattle.layout.specs.Written.{saidOf, tidied}
 use Rattle.layout.specs.Format.{Sound, word, Format}
 use Rattle.layout.specs.Faithful.{Prefix, Faithful, Exact, Tidies, Kept}
 use Rattle.layout.specs.Placed.{Inside, Lies, lies, nowhere, Placed}

@@ -11,10 +11,10 @@ use borrow.Author.Tests.{leb-true, eqb-true, eqb-false}
 use lib.Dec.{leb, eqb, lit≤}
 use lib.ListN.{length, take, drop, getD, length-append, length-drop}
 use lib.Seq.{take-append-seam, take-append-le, drop-append-le, drop-drop, take-all, drop-at}
-use Rattle.layout.specs.Answer.{Answer, got, refused, pick, bare}
+use Rattle.layout.specs.Answer.{Answer, got, pick, bare}
 use Rattle.layout.specs.Bytes.{bytes, number}
-use Rattle.layout.specs.Refusals.{KIND, COUNT, ROOM}
-use Rattle.layout.specs.Written.{Said, says, no, Wrote, answerOf, leftOf}
+use Rattle.layout.specs.Refusals.{KIND, COUNT}
+use Rattle.layout.specs.Written.{says, no, Wrote}
 use Rattle.layout.proofs.laws.Did.{Whole, whole}
 use Rattle.layout.proofs.laws.Numbers.{length-bytes, number-bytes}
 use Rattle.layout.proofs.laws.Tidied.{zero-one}

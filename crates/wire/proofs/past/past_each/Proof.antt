@@ -1,6 +1,6 @@
 -- `wire::past::past_each`: the values that are left, from the place reached. Assumes nothing.
 use mathlib.Core.Path.{_≡_, sym, _∙_, ap}
-use Prim.Native.Nat.{suc, _-_, _≤_}
+use Prim.Native.Nat.{suc, _-_}
 use native.Mathlib.Omega.{arith}
 use denote.Ref.{now}
 use Rattle.layout.proofs.laws.Reading.{heard}

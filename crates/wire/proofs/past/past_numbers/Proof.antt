@@ -1,5 +1,4 @@
 -- `wire::past::past_numbers`: one span of all the bytes. The product fits, since n is below 2^32 and a width at most 16. Assumes nothing.
-use mathlib.Core.Path.{_∙_}
 use native.Mathlib.Nat.{mul-le-mul, lt-of-le-of-lt, div-mul-le-self}
 use native.Mathlib.Omega.{arith}
 use lib.Dec.{lit<}
