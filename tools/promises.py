@@ -83,7 +83,10 @@ def edits_by_function(public):
     tells of."""
     tried, faults = collections.defaultdict(list), []
     for crate in libraries():
-        if any(name.startswith(crate + '::') for name in public):
+        if not any(name.startswith(crate + '::') for name in public):
+            gate = [edits.Edit(crate, label, True, [], edits.of_gate(crate, label)) for label in gate_labels(crate)]
+            faults += faults_of(crate, gate)
+        else:
             found = edits.of_crate(crate)
             faults += faults_of(crate, found)
             for edit in found:

@@ -20,7 +20,7 @@ from tools.edits import ROOT, BadEdit, read
 COPY = os.path.join(ROOT, 'target', 'wrong')
 
 # What the prover says where a proof names what the code no longer has; or, of a proof that walks the code step by step, where the code takes other steps.
-UNFIT = re.compile(r'that can be named from here|first differ where one has `mir\.|\(types\.Kit\.allocs`')
+UNFIT = re.compile(r'that can be named from here|has no field|first differ where one has `mir\.|\(types\.Kit\.allocs`')
 # A fact that is not proved, with its place and name: one of a proof file, not what merely rests on another that was refused; or one of a function
 # without a proof file.
 OF_PROOF = re.compile(r'^(\S+/proofs/\S+:\d+:\d+): error: `([^`]+)`(?!: `[^`]+` was not admitted)', re.MULTILINE)

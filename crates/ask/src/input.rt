@@ -22,7 +22,7 @@ pub fn room() -> [u8; 1265536] {
 }
 
 // Behind what was there; what came has room.
-fn filled(end: usize, n: usize, size: usize) -> Filled {
+fn behind(end: usize, n: usize, size: usize) -> Filled {
     if end <= size {
         if n <= size - end {
             return Filled {
@@ -42,7 +42,7 @@ pub fn more(lines: &mut [u8], end: usize) -> Filled {
         slice::part_mut(lines, end, size),
         b"ask: reading standard input",
     ) {
-        Came::Bytes(n) => filled(end, n, size),
+        Came::Bytes(n) => behind(end, n, size),
         Came::Failed => Filled { end, ok: false },
     }
 }

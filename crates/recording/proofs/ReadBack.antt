@@ -248,6 +248,6 @@ module _ (kind code tid : ℕ) (payload old written : List ℕ) (m : ℕ) (code-
       }
     where
       holding : (c : Content) → Held (take m written) new way c →
-          (x : Container) × ((c ≡ content.Holds x) × (x .kind ≡ kindIn (take m written)) × (x .code ≡ codeIn (take m written)) × (x .number ≡ numberIn (take m written)) × (partOf new (x .payload) ≡ drop 12 (take m written)))
+          (x : Container) × ((c ≡ content.holds x) × (x .kind ≡ kindIn (take m written)) × (x .code ≡ codeIn (take m written)) × (x .number ≡ numberIn (take m written)) × (partOf new (x .payload) ≡ drop 12 (take m written)))
       holding c (a-note three) = absurd (no-note three)
       holding c (a-container {x = x} other k l t p) = (x, (refl, k, l, t, p))

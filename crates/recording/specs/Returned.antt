@@ -31,7 +31,7 @@ pub record ReturnsContainer (way kind code number : ℕ) (payload s : List ℕ) 
   pub container : Container
   pub answer : x ≡ got found n
   pub same-way : found .kind ≡ way
-  pub content : found .content ≡ content.Holds container
+  pub content : found .content ≡ content.holds container
   pub same-kind : container .kind ≡ kind
   pub same-code : container .code ≡ code
   pub same-number : container .number ≡ number
