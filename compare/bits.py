@@ -2,8 +2,8 @@
 
 from collections import namedtuple
 
-import values
-from refusals import Refused
+from model import values
+from model.refusals import Refused
 
 # A question's cases: `short(rng)` gives its short and edge cases, all of them; `one(rng)` makes a random one (None: there are no more).
 Cases = namedtuple("Cases", "short one")

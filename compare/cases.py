@@ -2,14 +2,13 @@
 
 import random
 
-import names
-from cases_datasets import DATASET_CASES
-from cases_recording import RECORDING_CASES
-from cases_session import SESSION_CASES
-from cases_tree import TREE_CASES
-from cases_values import VALUE_CASES
-from cases_values import names as name_cases
-from malformed import MALFORMED_CASES
+from compare.cases_datasets import DATASET_CASES
+from compare.cases_recording import RECORDING_CASES
+from compare.cases_session import SESSION_CASES
+from compare.cases_tree import TREE_CASES
+from compare.cases_values import VALUE_CASES, names as name_cases
+from compare.malformed import MALFORMED_CASES
+from model import names
 
 CASES = {
     "response-name": name_cases("response-name", names.FIRST_RESPONSE, len(names.RESPONSES)),

@@ -2,10 +2,9 @@
 
 import itertools
 
-import datasets
-import values
-from bits import (EDGES_64, TYPES, Cases, damaged, hexed, maybe_damaged, room_for, row_bytes, some_bytes, type_code,
-                  value_bytes)
+from compare.bits import (EDGES_64, TYPES, Cases, damaged, hexed, maybe_damaged, room_for, row_bytes, some_bytes,
+                          type_code, value_bytes)
+from model import datasets, values
 
 MOST_LISTED = 65_535
 # A list of so many strings fills a line of 1,200,000 characters nearly.

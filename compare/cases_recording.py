@@ -2,9 +2,9 @@
 
 import itertools
 
-import recording
-from bits import EDGES_32, Cases, hexed, maybe_damaged, room_for, some_bytes, u32
-from cases_session import random_container, whole
+from compare.bits import EDGES_32, Cases, hexed, maybe_damaged, room_for, some_bytes, u32
+from compare.cases_session import random_container, whole
+from model import recording
 
 MOST = recording.MOST_BODY
 KINDS = [0, 1, 2, 3, 4, 256, 257, 0xFFFF]

@@ -2,11 +2,9 @@
 
 import itertools
 
-import containers
-import datasets
-import session
-from bits import EDGES_32, Cases, damaged, hexed, listed, maybe_damaged, number_bytes, room_for, some_bytes, u32
-from cases_datasets import row
+from compare.bits import EDGES_32, Cases, damaged, hexed, listed, maybe_damaged, number_bytes, room_for, some_bytes, u32
+from compare.cases_datasets import row
+from model import containers, datasets, session
 
 HEADER = containers.HEADER
 OK = session.OK

@@ -2,9 +2,9 @@
 
 import itertools
 
-import tree
-from ask import MOST_ROOM
-from bits import EDGES_64, Cases, damaged, any_string, hexed, listed, room_for
+from compare.bits import EDGES_64, Cases, damaged, any_string, hexed, listed, room_for
+from model import tree
+from model.ask import MOST_ROOM
 
 MOST = tree.MOST_OBJECTS
 LONGEST_NAME = 254

@@ -2,9 +2,10 @@
 
 import itertools
 
-import values
-from bits import (ARRAY_TYPES, EDGES_64, OTHER_TYPES, TYPES, WRAPPING_COUNTS, Cases, hexed, listed, maybe_damaged, number_bytes,
-                  paired_units, room_for, some_bytes, type_code, value_bytes, wild_units)
+from compare.bits import (ARRAY_TYPES, EDGES_64, OTHER_TYPES, TYPES, WRAPPING_COUNTS, Cases, hexed, listed,
+                          maybe_damaged, number_bytes, paired_units, room_for, some_bytes, type_code, value_bytes,
+                          wild_units)
+from model import values
 
 KEY_UNITS = [0x0041, 0x0000, 0xD800, 0xDBFF, 0xDC00, 0xDFFF, 0xE000]
 

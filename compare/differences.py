@@ -1,7 +1,7 @@
 """Runs the examples of docs/DIFFERENCES.md: `ours` against the model, `rust` against the oracle started with --outside.
 It fails too where a rule of compare/rules.py names a row that the page has not.
 
-    compare/differences.py --oracle PROGRAM
+    python3 -m compare.differences --oracle PROGRAM
 """
 
 import argparse
@@ -10,11 +10,9 @@ import re
 import subprocess
 import sys
 
+from model import ask
+
 ROOT = pathlib.Path(__file__).resolve().parent.parent
-sys.path.insert(0, str(ROOT / "model"))
-
-import ask
-
 PAGE = ROOT / "docs" / "DIFFERENCES.md"
 RULES = ROOT / "compare" / "rules.py"
 

@@ -2,8 +2,8 @@
 
 import itertools
 
-import ask
-from bits import Cases
+from compare.bits import Cases
+from model import ask
 
 GOOD = [
     "value 4 0 3412", "end 0 00", "unit 0 0 00", "item 0x4002 0 0 00000000", "utf8 0 00 4", "write-value 4 5 2",

@@ -1,6 +1,6 @@
 """Writes the replay: a fixed list of questions, and the answers on which model and oracle agree.
 
-    compare/replay.py --oracle PROGRAM [--questions NAME,NAME] QUESTIONS ANSWERS
+    python3 -m compare.replay --oracle PROGRAM [--questions NAME,NAME] QUESTIONS ANSWERS
 
 Where a rule of compare/rules.py leaves a question out of the oracle's comparison, the answer is the model's alone. With
 --questions only those questions are written, so that the list can grow with the crates.
@@ -12,16 +12,8 @@ import os
 import sys
 import tempfile
 
-import rules
-import ask
-import cases
-import differences
-import names
-import peers
-import run
-import test_examples
-import test_orders
-import test_page
+from compare import cases, differences, peers, rules, run
+from model import ask, names, test_examples, test_orders, test_page
 
 EXAMPLES = differences.ROOT / "examples"
 SEED = "replay"

@@ -3,15 +3,8 @@
 A rule tests the question, never an answer.
 """
 
-import os
-import sys
-
-sys.path.insert(0, os.path.join(os.path.dirname(os.path.abspath(__file__)), "..", "model"))
-
-import ask
-import tree
-import values
-from containers import COMMAND, EVENT, HEADER, MOST_PARAMETERS, RESPONSE
+from model import ask, tree, values
+from model.containers import COMMAND, EVENT, HEADER, MOST_PARAMETERS, RESPONSE
 
 LAST_NUMBER = 0xFFFFFFFF
 MALFORMED = "malformed"

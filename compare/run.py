@@ -1,6 +1,6 @@
 """Asks the program `ask`, the model and the oracle the same questions, and prints each difference.
 
-    compare/run.py [SEED [COUNT]] [--ask COMMAND] [--oracle PROGRAM] [--questions NAME,NAME]
+    python3 -m compare.run [SEED [COUNT]] [--ask COMMAND] [--oracle PROGRAM] [--questions NAME,NAME]
 
 The model is asked always; the other two where they are given. The same seed gives the same cases. Then comes a table
 of the cases compared and left out by question, and last `COUNT compared, N differ`. It fails where an answer
@@ -16,9 +16,8 @@ import subprocess
 import sys
 import tempfile
 
-import rules
-import ask
-import cases
+from compare import cases, rules
+from model import ask
 
 BATCH = 20_000
 SHOWN = 300

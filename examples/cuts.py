@@ -1,6 +1,6 @@
 """Judges a program that lists recordings, by the model: the examples, cut and damaged recordings, and long ones.
 
-    examples/cuts.py [--seed SEED] COMMAND ..
+    python3 -m examples.cuts [--seed SEED] COMMAND ..
 
 COMMAND reads a recording from standard input and writes its listing. It is given every example of this folder, a small
 recording cut at every byte, a thousand damaged ones, and some that are longer than any buffer. Each difference is
@@ -13,14 +13,12 @@ import random
 import subprocess
 import sys
 
+from compare.bits import damaged
+from compare.cases_recording import random_record, record, small_recording, whole
+from model import listing
+from model.recording import MOST_BODY
+
 FOLDER = pathlib.Path(__file__).resolve().parent
-sys.path[:0] = [str(FOLDER.parent / "model"), str(FOLDER.parent / "compare")]
-
-import listing
-from bits import damaged
-from cases_recording import random_record, record, small_recording, whole
-from recording import MOST_BODY
-
 DAMAGED = 1000
 LONG_BYTES = 3_000_000
 SHOWN = 200

@@ -1,7 +1,7 @@
 """Makes the recordings of this folder, and their listings, from the descriptions beside it (*.txt).
 
-    examples/make.py            writes NAME.recording and NAME.listing for each `recording NAME`
-    examples/make.py --check    writes nothing, and fails where a file is not what its description says
+    python3 -m examples.make            writes NAME.recording and NAME.listing for each `recording NAME`
+    python3 -m examples.make --check    writes nothing, and fails where a file is not what its description says
 
 A listing's lines are made from the description, line by line, not by reading the recording. Then the model, which
 reads the bytes, must give the same listing. No code of the crates takes part.
@@ -21,12 +21,9 @@ import shlex
 import sys
 from collections import namedtuple
 
+from model import listing, names
+
 FOLDER = pathlib.Path(__file__).resolve().parent
-sys.path.insert(0, str(FOLDER.parent / "model"))
-
-import listing
-import names
-
 KINDS = {"Command": 1, "Data": 2, "Response": 3, "Event": 4}
 WAYS = {"in": 1, "out": 2}
 NOTE = 3

@@ -1,21 +1,14 @@
 """Answers the questions of `ask` (docs/ASK.md), one a line, from this model.
 
-    python3 model/ask.py < questions > answers
+    python3 -m model.ask < questions > answers
 """
 
 import binascii
 import re
 import sys
 
-import containers
-import datasets
-import listing
-import names
-import recording
-import session
-import tree
-import values
-from refusals import ROOM, Refused, refuse_if
+from model import containers, datasets, listing, names, recording, session, tree, values
+from model.refusals import ROOM, Refused, refuse_if
 
 LONGEST_LINE = 1_200_000
 MOST_ROOM = 1 << 20

@@ -2,8 +2,8 @@
 
 from collections import namedtuple
 
-from refusals import COUNT, KIND, LENGTH, SIZE, refuse_if
-from values import read_number
+from model.refusals import COUNT, KIND, LENGTH, SIZE, refuse_if
+from model.values import read_number
 
 COMMAND, DATA, RESPONSE, EVENT = 1, 2, 3, 4
 HEADER = 12

@@ -2,8 +2,8 @@
 
 from collections import namedtuple
 
-from refusals import PLACE, Refused, refuse_if
-from values import STRING, read_number, read_value, write_number, write_value
+from model.refusals import PLACE, Refused, refuse_if
+from model.values import STRING, read_number, read_value, write_number, write_value
 
 UINT8, UINT16, UINT32, UINT64, AUINT16 = 0x0002, 0x0004, 0x0006, 0x0008, 0x4004
 

@@ -1,9 +1,9 @@
 """The listing ("The listing, whole" of document 01), from a recording's bytes to its text."""
 
-from containers import COMMAND, DATA, RESPONSE, read_header
-from names import command_name, response_name
-from recording import NOTE, SENT, read_record
-from refusals import Refused
+from model.containers import COMMAND, DATA, RESPONSE, read_header
+from model.names import command_name, response_name
+from model.recording import NOTE, SENT, read_record
+from model.refusals import Refused
 
 HEADING = "place way kind code tid bytes\n"
 KIND_WORDS = {1: "Command", 2: "Data", 3: "Response", 4: "Event"}

@@ -2,9 +2,9 @@
 
 from collections import namedtuple
 
-from containers import read_container
-from refusals import LONG, RECORD, TRAIL, refuse_if
-from values import read_number, take
+from model.containers import read_container
+from model.refusals import LONG, RECORD, TRAIL, refuse_if
+from model.values import read_number, take
 
 RECEIVED, SENT, NOTE = 1, 2, 3
 RECORD_HEADER = 6

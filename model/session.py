@@ -2,11 +2,11 @@
 
 from collections import namedtuple
 
-from containers import DATA, RESPONSE, read_container, write_command, write_container
-from datasets import DEVICE, OBJECT, STORAGE, read_row
-from names import command_code
-from refusals import NOPHASE, TID, refuse_if
-from values import expect_end, read_array, read_number
+from model.containers import DATA, RESPONSE, read_container, write_command, write_container
+from model.datasets import DEVICE, OBJECT, STORAGE, read_row
+from model.names import command_code
+from model.refusals import NOPHASE, TID, refuse_if
+from model.values import expect_end, read_array, read_number
 
 OK = 0x2001
 UINT32 = 0x0006

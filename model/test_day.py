@@ -3,9 +3,9 @@
 import pathlib
 import unittest
 
-import recording
-from ask import answer
-from containers import DATA, read_container
+from model import recording
+from model.ask import answer
+from model.containers import DATA, read_container
 
 DAY = pathlib.Path(__file__).resolve().parent.parent / "examples" / "day.recording"
 

@@ -2,7 +2,7 @@
 
 import unittest
 
-from ask import answer
+from model.ask import answer
 
 OPEN_SESSION = "1800000001000210" + "00000000" + "03" + "00" * 11
 RESPONSE_OK = "0c00000003000120" + "00000000"

@@ -5,7 +5,7 @@ Each entry is a question and the first words of its answer. The replay has them 
 
 import unittest
 
-from ask import answer
+from model.ask import answer
 
 
 def repeated(word, count):

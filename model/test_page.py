@@ -3,7 +3,7 @@
 import pathlib
 import unittest
 
-import ask
+from model import ask
 
 PAGE = pathlib.Path(__file__).resolve().parent.parent / "docs" / "ASK.md"
 

@@ -5,8 +5,8 @@ A table is handles, parents, ends and the names' bytes, end to end.
 
 from collections import namedtuple
 
-from refusals import PLACE, ROOM, TABLE, refuse_if
-from values import expect_end, read_string, utf8
+from model.refusals import PLACE, ROOM, TABLE, refuse_if
+from model.values import expect_end, read_string, utf8
 
 MOST_OBJECTS = 1024
 

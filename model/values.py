@@ -4,7 +4,7 @@ A value is here a whole number, a pair (high, low) of unsigned halves for 128 bi
 a `Text` for a string, or `UNDEF`.
 """
 
-from refusals import COUNT, END, PLACE, TEXT, TRAIL, refuse_if
+from model.refusals import COUNT, END, PLACE, TEXT, TRAIL, refuse_if
 
 STRING = 0xFFFF
 MOST_UNITS = 254

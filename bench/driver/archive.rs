@@ -7,7 +7,6 @@ mod archive {
     pub type Numbers = unsafe extern "C" fn(*const u8, usize, *mut u64, usize) -> u64;
     pub type Bytes = unsafe extern "C" fn(*const u8, usize, *mut u8, usize) -> u64;
     pub type Place = unsafe extern "C" fn(u16) -> u64;
-    pub type Spelling = unsafe extern "C" fn(u16, *mut u8, usize) -> u64;
 
     extern "C" {
         pub fn ptp_device_info(s: *const u8, len: usize, out: *mut u64, room: usize) -> u64;
@@ -28,8 +27,6 @@ mod archive {
         pub fn bench_tidy_storage(s: *const u8, len: usize, out: *mut u8, room: usize) -> u64;
         pub fn bench_response_place(code: u16) -> u64;
         pub fn bench_command_place(code: u16) -> u64;
-        pub fn bench_response_name(code: u16, out: *mut u8, room: usize) -> u64;
-        pub fn bench_command_name(code: u16, out: *mut u8, room: usize) -> u64;
     }
 
     pub fn numbers(f: Numbers, s: &[u8], out: &mut [u64]) -> u64 {
@@ -38,10 +35,6 @@ mod archive {
 
     pub fn bytes(f: Bytes, s: &[u8], out: &mut [u8]) -> u64 {
         unsafe { f(s.as_ptr(), s.len(), out.as_mut_ptr(), out.len()) }
-    }
-
-    pub fn spelling(f: Spelling, code: u16, out: &mut [u8]) -> u64 {
-        unsafe { f(code, out.as_mut_ptr(), out.len()) }
     }
 
     pub fn find_answer(s: &[u8], number: u32, out: &mut [u64]) -> u64 {

@@ -1,5 +1,5 @@
 
-// The listing of a large recording of small records.
+// The listing of a large recording, of short records and of long ones.
 
 mod listing {
     use super::*;
@@ -12,19 +12,28 @@ mod listing {
 
     const RECORDING: usize = 64_000_000;
     const LISTINGS: usize = 7;
+    const LONG_BODY: usize = 8192;
 
     fn record(kind: u16, body: &[u8]) -> Vec<u8> {
         [u32s(&[6 + body.len() as u32]), u16s(&[kind]), body.to_vec()].concat()
     }
 
-    /// Writes the recording, and says how many records it has.
-    fn write_recording(path: &str) -> io::Result<usize> {
-        let few = [
+    /// What a day has most of.
+    fn short_records() -> Vec<Vec<u8>> {
+        vec![
             record(2, &container(1, StandardCommandCode::GetStorageInfo, &u32s(&[0x10001]))),
             record(1, &container(2, StandardCommandCode::GetStorageInfo, &storage_record())),
             record(1, &container(3, StandardResponseCode::Ok, &[])),
             record(3, b"next frame"),
-        ];
+        ]
+    }
+
+    fn long_records() -> Vec<Vec<u8>> {
+        vec![record(1, &container(2, StandardCommandCode::GetObject, &vec![0; LONG_BODY - 12]))]
+    }
+
+    /// Writes these records again and again, and says how many there are.
+    fn write_recording(path: &str, few: &[Vec<u8>]) -> io::Result<usize> {
         let times = RECORDING / few.concat().len();
         let mut file = BufWriter::new(try!(File::create(path)));
         for _ in 0..times {
@@ -41,8 +50,8 @@ mod listing {
         nanoseconds(began)
     }
 
-    pub fn listing(program: &str, path: &str) {
-        let count = write_recording(path).expect("the recording is written");
+    fn measured(program: &str, path: &str, few: &[Vec<u8>], what: &str) {
+        let count = write_recording(path, few).expect("the recording is written");
         let size = fs::metadata(path).expect("the recording").len() as f64;
         let mut list = vec![];
         let mut cat = vec![];
@@ -51,7 +60,12 @@ mod listing {
             cat.push(run_time("cat", path));
         }
         println!();
-        println!("A recording of {:.0} MB in {} records, to /dev/null, medians of {} runs: our listing {:.0} MB/s, `cat` {:.0} MB/s.",
-                 size / 1e6, count, LISTINGS, size / median(list) * 1e3, size / median(cat) * 1e3);
+        println!("A recording of {:.0} MB in {} {}, to /dev/null, medians of {} runs: our listing {:.0} MB/s, `cat` {:.0} MB/s.",
+                 size / 1e6, count, what, LISTINGS, size / median(list) * 1e3, size / median(cat) * 1e3);
+    }
+
+    pub fn listing(program: &str, path: &str) {
+        measured(program, path, &short_records(), "short records");
+        measured(program, path, &long_records(), "records with bodies of 8,192 bytes");
     }
 }

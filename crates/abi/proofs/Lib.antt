@@ -1,3 +1,4 @@
+pub mod laws
 pub mod Minus
-pub mod Answers
 pub mod Unique
+pub mod Given

@@ -11,7 +11,7 @@ use Rattle.layout.specs.declared.Written.the-variants as written
 use Rattle.session.specs.Transaction.{turn}
 use Rattle.tree.specs.Path.{Walked, AllPaths}
 use Rattle.tree.specs.Table.{Table}
-use Rattle.tree.proofs.Unique.{one-walked, one-paths}
+use Rattle.tree.proofs.laws.Unique.{one-walked, one-paths}
 use Rattle.abi.specs.Answered.{word, Tells, Gives}
 use Rattle.abi.specs.Sent.{sessionAt, numberAfter, Sent}
 

@@ -1,20 +1,15 @@
--- A command from a code and its parameters, with or without data, by the session's number.
+-- A command with or without data, by the session's number.
 -- Assumes nothing.
 use mathlib.Core.Bool.{Bool}
-use mathlib.Core.List.{List, [], _∷_}
+use mathlib.Core.List.{List}
 use mathlib.Core.Path.{_≡_}
 use Prim.Native.Nat.{ℕ}
-use lib.ListN.{length, getD}
 use Rattle.layout.specs.Answer.{Answer, got, refused, pick}
 use Rattle.layout.specs.Written.{Said}
 use Rattle.wire.specs.Container.{commandSaid}
 use Rattle.wire.specs.declared.container.Command.{Command}
 use Rattle.session.specs.Transaction.{Turn, withData, Makes}
 use Rattle.session.specs.declared.transaction.Session.{Session}
-
--- the parameters that there are; a count over five is refused, so that no more than five are meant
-abbrev pub commandOf : ℕ → List ℕ → Command
-commandOf code ps = record { code = code; params = getD ps 0 0 ∷ getD ps 1 0 ∷ getD ps 2 0 ∷ getD ps 3 0 ∷ getD ps 4 0 ∷ []; count = length ps }
 
 abbrev pub commandDue : Bool → Command → List ℕ → ℕ → Said
 commandDue data? c payload = pick data? (withData c payload) (commandSaid c)

@@ -19,7 +19,7 @@ pub fn give(row: &[u64], out: &mut [u64]) -> Written
     ensures { λ r. ⌜ Wrote (says (now (row .entry))) (now (out .entry)) (saysWritten r) (now (out .exit)) ⌝ }
 {
     if out.len() < row.len() {
-        return Written::Refused(layout::plain(9));
+        return Written::Refused(layout::plain(layout::ROOM));
     }
     let mut i: usize = 0;
     while i < row.len() {

@@ -2,12 +2,14 @@
 ghost use mathlib.Core.Path.{_≡_};
 ghost use mathlib.Core.List.{_∷_};
 ghost use Rattle.layout.specs.Written.{Wrote, saysWritten};
-ghost use Rattle.wire.specs.Device.{deviceAt};
-ghost use Rattle.wire.specs.Object.{objectAt};
-ghost use Rattle.wire.specs.Property.{propertyAt};
-ghost use Rattle.wire.specs.Storage.{storageAt};
+ghost use Rattle.wire.specs.Device.{deviceFields};
+ghost use Rattle.wire.specs.Layout.{device, object, storage};
+ghost use Rattle.wire.specs.Object.{objectFields};
+ghost use Rattle.wire.specs.Places.{rowAt};
+ghost use Rattle.wire.specs.Property.{propertyAt, saysForm, infoFrom};
+ghost use Rattle.wire.specs.Storage.{storageFields};
 ghost use Rattle.abi.specs.Answered.{Gives, given};
-ghost use Rattle.abi.specs.Rows.{deviceRow, objectRow, storageRow, formRow, propRow};
+ghost use Rattle.abi.specs.Rows.{fieldsRow, formRow, propRow};
 use crate::answer;
 use layout::Written;
 use wire::Cursor;
@@ -22,7 +24,7 @@ use wire::ReadStorage;
 use wire::StorageInfo;
 
 fn device_row(x: DeviceInfo, len: usize) -> [u64; 25]
-    ensures { λ r. ⌜ r ≡ len ∷ deviceRow x ⌝ }
+    ensures { λ r. ⌜ r ≡ len ∷ fieldsRow (deviceFields x) ⌝ }
 {
     [
         len as u64,
@@ -54,7 +56,7 @@ fn device_row(x: DeviceInfo, len: usize) -> [u64; 25]
 }
 
 fn give_device(s: &[u8], out: &mut [u64]) -> Written
-    ensures { λ r. ⌜ Wrote (given deviceRow (deviceAt (now (s .entry)) 0)) (now (out .entry)) (saysWritten r) (now (out .exit)) ⌝ }
+    ensures { λ r. ⌜ Wrote (given fieldsRow (rowAt device (now (s .entry)) 0)) (now (out .entry)) (saysWritten r) (now (out .exit)) ⌝ }
 {
     match wire::device_info(s, Cursor { at: 0 }) {
         ReadDevice::Got(x, next) => answer::give(&device_row(x, next.at), out),
@@ -64,13 +66,13 @@ fn give_device(s: &[u8], out: &mut [u64]) -> Written
 
 #[no_mangle]
 pub extern "C" fn ptp_device_info(s: &[u8], out: &mut [u64]) -> u64
-    ensures { λ r. ⌜ Gives (given deviceRow (deviceAt (now (s .entry)) 0)) (now (out .entry)) r (now (out .exit)) ⌝ }
+    ensures { λ r. ⌜ Gives (given fieldsRow (rowAt device (now (s .entry)) 0)) (now (out .entry)) r (now (out .exit)) ⌝ }
 {
     answer::told(give_device(s, out))
 }
 
 fn object_row(x: ObjectInfo, len: usize) -> [u64; 24]
-    ensures { λ r. ⌜ r ≡ len ∷ objectRow x ⌝ }
+    ensures { λ r. ⌜ r ≡ len ∷ fieldsRow (objectFields x) ⌝ }
 {
     [
         len as u64,
@@ -101,7 +103,7 @@ fn object_row(x: ObjectInfo, len: usize) -> [u64; 24]
 }
 
 fn give_object(s: &[u8], out: &mut [u64]) -> Written
-    ensures { λ r. ⌜ Wrote (given objectRow (objectAt (now (s .entry)) 0)) (now (out .entry)) (saysWritten r) (now (out .exit)) ⌝ }
+    ensures { λ r. ⌜ Wrote (given fieldsRow (rowAt object (now (s .entry)) 0)) (now (out .entry)) (saysWritten r) (now (out .exit)) ⌝ }
 {
     match wire::object_info(s, Cursor { at: 0 }) {
         ReadObject::Got(x, next) => answer::give(&object_row(x, next.at), out),
@@ -111,13 +113,13 @@ fn give_object(s: &[u8], out: &mut [u64]) -> Written
 
 #[no_mangle]
 pub extern "C" fn ptp_object_info(s: &[u8], out: &mut [u64]) -> u64
-    ensures { λ r. ⌜ Gives (given objectRow (objectAt (now (s .entry)) 0)) (now (out .entry)) r (now (out .exit)) ⌝ }
+    ensures { λ r. ⌜ Gives (given fieldsRow (rowAt object (now (s .entry)) 0)) (now (out .entry)) r (now (out .exit)) ⌝ }
 {
     answer::told(give_object(s, out))
 }
 
 fn storage_row(x: StorageInfo, len: usize) -> [u64; 11]
-    ensures { λ r. ⌜ r ≡ len ∷ storageRow x ⌝ }
+    ensures { λ r. ⌜ r ≡ len ∷ fieldsRow (storageFields x) ⌝ }
 {
     [
         len as u64,
@@ -135,7 +137,7 @@ fn storage_row(x: StorageInfo, len: usize) -> [u64; 11]
 }
 
 fn give_storage(s: &[u8], out: &mut [u64]) -> Written
-    ensures { λ r. ⌜ Wrote (given storageRow (storageAt (now (s .entry)) 0)) (now (out .entry)) (saysWritten r) (now (out .exit)) ⌝ }
+    ensures { λ r. ⌜ Wrote (given fieldsRow (rowAt storage (now (s .entry)) 0)) (now (out .entry)) (saysWritten r) (now (out .exit)) ⌝ }
 {
     match wire::storage_info(s, Cursor { at: 0 }) {
         ReadStorage::Got(x, next) => answer::give(&storage_row(x, next.at), out),
@@ -145,14 +147,14 @@ fn give_storage(s: &[u8], out: &mut [u64]) -> Written
 
 #[no_mangle]
 pub extern "C" fn ptp_storage_info(s: &[u8], out: &mut [u64]) -> u64
-    ensures { λ r. ⌜ Gives (given storageRow (storageAt (now (s .entry)) 0)) (now (out .entry)) r (now (out .exit)) ⌝ }
+    ensures { λ r. ⌜ Gives (given fieldsRow (rowAt storage (now (s .entry)) 0)) (now (out .entry)) r (now (out .exit)) ⌝ }
 {
     answer::told(give_storage(s, out))
 }
 
 // The form, and three parts: those of a range; or a list's bytes and the count of its values.
 fn form_row(f: Form) -> [u64; 7]
-    ensures { λ r. ⌜ r ≡ formRow f ⌝ }
+    ensures { λ r. ⌜ r ≡ formRow (saysForm f) ⌝ }
 {
     match f {
         Form::Absent => [0, 0, 0, 0, 0, 0, 0],
@@ -170,7 +172,7 @@ fn form_row(f: Form) -> [u64; 7]
 }
 
 fn prop_row(x: PropInfo, len: usize) -> [u64; 16]
-    ensures { λ r. ⌜ r ≡ len ∷ propRow x ⌝ }
+    ensures { λ r. ⌜ r ≡ len ∷ propRow (infoFrom x) ⌝ }
 {
     let form = x.form;
     let f = form_row(form);

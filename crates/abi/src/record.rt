@@ -2,7 +2,7 @@
 ghost use mathlib.Core.Path.{_≡_};
 ghost use mathlib.Core.List.{_∷_};
 ghost use Rattle.layout.specs.Written.{Wrote, saysWritten};
-ghost use Rattle.recording.specs.Record.{recordOf};
+ghost use Rattle.recording.specs.Record.{recordOf, saysContent, recordFrom};
 ghost use Rattle.abi.specs.Answered.{Gives, given};
 ghost use Rattle.abi.specs.Rows.{contentRow, recordRow};
 use crate::answer;
@@ -12,7 +12,7 @@ use recording::ReadRecord;
 use recording::Record;
 
 fn content_row(c: Content) -> [u64; 5]
-    ensures { λ r. ⌜ r ≡ contentRow c ⌝ }
+    ensures { λ r. ⌜ r ≡ contentRow (saysContent c) ⌝ }
 {
     match c {
         Content::Note => [0, 0, 0, 0, 0],
@@ -27,7 +27,7 @@ fn content_row(c: Content) -> [u64; 5]
 }
 
 fn record_row(x: Record, len: usize) -> [u64; 9]
-    ensures { λ r. ⌜ r ≡ len ∷ recordRow x ⌝ }
+    ensures { λ r. ⌜ r ≡ len ∷ recordRow (recordFrom x) ⌝ }
 {
     let content = x.content;
     let c = content_row(content);

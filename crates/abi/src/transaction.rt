@@ -1,40 +1,16 @@
 // A command made, and its answer found.
-ghost use mathlib.Core.Path.{_≡_};
-ghost use lib.ListN.{getD};
 ghost use Rattle.layout.specs.Written.{Wrote, saysWritten};
+ghost use Rattle.session.specs.Calls.{commandOf};
 ghost use Rattle.session.specs.Search.{answerIn};
 ghost use Rattle.session.specs.Transaction.{Makes, saysMade};
 ghost use Rattle.abi.specs.Answered.{Tells, Gives, given};
 ghost use Rattle.abi.specs.Rows.{replyRow};
-ghost use Rattle.abi.specs.Sent.{commandOf, commandDue, sessionAt, Sent};
+ghost use Rattle.abi.specs.Sent.{commandDue, sessionAt, Sent};
 use crate::answer;
 use layout::Written;
 use session::Found;
 use session::Made;
 use session::Session;
-use wire::Command;
-
-fn param(params: &[u32], i: usize) -> u32
-    ensures { λ r. ⌜ r ≡ getD (now (params .entry)) i 0 ⌝ }
-{
-    if i < params.len() { params[i] } else { 0 }
-}
-
-fn command_of(code: u16, params: &[u32]) -> Command
-    ensures { λ r. ⌜ r ≡ commandOf code (now (params .entry)) ⌝ }
-{
-    Command {
-        code,
-        params: [
-            param(params, 0),
-            param(params, 1),
-            param(params, 2),
-            param(params, 3),
-            param(params, 4),
-        ],
-        count: params.len(),
-    }
-}
 
 fn made(
     number: u32,
@@ -48,9 +24,9 @@ fn made(
 {
     let session = Session { number };
     if with_data {
-        return session::command_with_data(session, command_of(code, params), payload, out);
+        return session::command_with_data(session, session::command_of(code, params), payload, out);
     }
-    session::command(session, command_of(code, params), out)
+    session::command(session, session::command_of(code, params), out)
 }
 
 // The command, with its data behind it where it has any; `number` is the session's, and is the next one's after success.

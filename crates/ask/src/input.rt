@@ -1,5 +1,6 @@
 // Standard input, block by block: the lines lie in one lent buffer, and what is left of the last is moved to its front.
-use crate::slice;
+use stream::Came;
+use words::slice;
 
 const MOST_LINE: usize = 1200000;
 
@@ -9,23 +10,41 @@ pub struct Held {
     pub is_long: bool,
 }
 
+// The place after all that came, and whether the reading went well.
+pub struct Filled {
+    pub end: usize,
+    pub ok: bool,
+}
+
 // The buffer for the longest line and a block behind it.
 pub fn room() -> [u8; 1265536] {
     [0u8; 1265536]
 }
 
-// Reads once behind what is there, and answers the place after it all; the same place where nothing came.
-pub fn more(lines: &mut [u8], end: usize) -> usize {
-    let size = lines.len();
-    let free = slice::part_mut(lines, end, size);
-    let got = libc::read(0, free);
-    let n = io::count(got, free);
+// Behind what was there; what came has room.
+fn behind(end: usize, n: usize, size: usize) -> Filled {
     if end <= size {
         if n <= size - end {
-            return end + n;
+            return Filled {
+                end: end + n,
+                ok: true,
+            };
         }
     }
-    end
+    Filled { end, ok: false }
+}
+
+// The one function that reads: once, behind what is there. The end stays where it is where nothing came; what failed is told.
+pub fn more(lines: &mut [u8], end: usize) -> Filled {
+    let size = lines.len();
+    match stream::read_some(
+        0,
+        slice::part_mut(lines, end, size),
+        b"ask: reading standard input",
+    ) {
+        Came::Bytes(n) => behind(end, n, size),
+        Came::Failed => Filled { end, ok: false },
+    }
 }
 
 fn move_front(lines: &mut [u8], start: usize, end: usize) -> usize {

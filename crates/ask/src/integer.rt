@@ -1,18 +1,18 @@
 // The VALUE of `write-value`: an integer of its type, or `undef`.
-use crate::number;
-use crate::number::Parsed;
-use crate::slice;
 use wire::Cursor;
 use wire::Integer;
-use wire::Pair;
 use wire::ReadI8;
 use wire::ReadI16;
 use wire::ReadI32;
 use wire::ReadI64;
+use wire::ReadPair;
 use wire::ReadU8;
 use wire::ReadU16;
 use wire::ReadU32;
 use wire::ReadU64;
+use words::number;
+use words::number::Parsed;
+use words::slice;
 
 pub enum Given {
     Is(Integer),
@@ -109,7 +109,20 @@ fn narrow_of(code: u16, w: &[u8]) -> Given {
     unsigned_of(code, &b)
 }
 
-// HIGH:LOW.
+fn wide_read(code: u16, b: &[u8]) -> Given {
+    let c = Cursor { at: 0 };
+    if code == 9 {
+        if let ReadPair::Got(v, _) = c.i128(b) {
+            return Given::Is(Integer::I128(v));
+        }
+    }
+    if let ReadPair::Got(v, _) = c.u128(b) {
+        return Given::Is(Integer::U128(v));
+    }
+    Given::Wrong
+}
+
+// HIGH:LOW, its bytes read as the type.
 fn wide_of(code: u16, w: &[u8]) -> Given {
     let colon = slice::find(w, 0, b':');
     let high = number::parse(slice::part(w, 0, colon), MOST);
@@ -120,14 +133,10 @@ fn wide_of(code: u16, w: &[u8]) -> Given {
     if !low.ok {
         return Given::Wrong;
     }
-    let pair = Pair {
-        high: high.v,
-        low: low.v,
-    };
-    if code == 9 {
-        return Given::Is(Integer::I128(pair));
-    }
-    Given::Is(Integer::U128(pair))
+    let mut b = [0u8; 16];
+    layout::store(&mut b, 0, 8, low.v);
+    layout::store(&mut b, 8, 8, high.v);
+    wide_read(code, &b)
 }
 
 fn undef_of(w: &[u8]) -> Given {

@@ -1,31 +1,33 @@
-// Answers questions, one a line, from standard input (docs/ASK.md). All buffers are made once and lent.
-mod container;
-mod dataset;
+// Answers questions, one a line, from standard input (docs/ASK.md). A question is a row of the table in question.rt, an arm of its
+// group, and a function there.
 mod fields;
 mod input;
 mod integer;
 mod list;
-mod name;
-mod number;
-mod payload;
-mod print;
+mod listed;
+mod long;
 mod question;
-mod record;
+mod reads;
 mod show;
-mod slice;
-mod table;
-mod transaction;
-mod value;
-mod words;
+mod writes;
 
 use input::Held;
 use question::Question;
+use words::args::Args;
+use words::print;
+use words::slice;
 
 // Where the first line stands that is not answered, and the place after the answers.
 struct Done {
     start: usize,
     is_long: bool,
     at: usize,
+}
+
+// What is held after a block, and whether its answers are written.
+struct Turn {
+    held: Held,
+    ok: bool,
 }
 
 fn out_room() -> [u8; 1048576] {
@@ -41,58 +43,69 @@ fn numbers_room() -> [u32; 8192] {
     [0u32; 8192]
 }
 
-fn answer(
-    line: &mut [u8],
-    out: &mut [u8],
-    halves: &mut [u16],
-    numbers: &mut [u32],
+// A writer's output is filled before, and printed whole after its pieces.
+fn write(
+    arm: u8,
+    a: Args,
+    src: &[u8],
+    halves: &[u16],
+    numbers: &[u32],
     text: &mut [u8],
     at: usize,
 ) -> usize {
-    let rest = words::first(line);
-    match question::question_of(slice::part(line, 0, rest.at)) {
-        Question::Name(q) => name::answer(q, line, rest, text, at),
-        Question::Value(q) => value::answer(q, line, rest, out, halves, text, at),
-        Question::Read(d) => dataset::read(d, line, rest, text, at),
-        Question::Tidy(d) => dataset::tidy(d, line, rest, out, text, at),
-        Question::List(q) => list::answer(q, line, rest, text, at),
-        Question::Container(q) => container::answer(q, line, rest, out, text, at),
-        Question::Session(q) => transaction::answer(q, line, rest, out, numbers, text, at),
-        Question::Payload(q) => payload::answer(q, line, rest, text, at),
-        Question::Table(q) => table::answer(q, line, rest, out, halves, numbers, text, at),
-        Question::Recording(q) => record::answer(q, line, rest, out, text, at),
-        Question::Unknown => print::unknown(text, at),
+    let mut out = out_room();
+    let page = print::page(&mut out, a.room);
+    let t = writes::of(arm, a, src, halves, numbers, page);
+    let o = show::tell(text, at, src, t);
+    if !t.ok {
+        return o;
     }
+    print::output(text, o, page)
+}
+
+fn reply(
+    q: Question,
+    a: Args,
+    line: &[u8],
+    halves: &[u16],
+    numbers: &[u32],
+    text: &mut [u8],
+    at: usize,
+) -> usize {
+    let src = slice::counted(line, a.start, a.count);
+    if q.group == question::READS {
+        return show::tell(text, at, src, reads::of(q.arm, a, src));
+    }
+    if q.group == question::WRITES {
+        return write(q.arm, a, src, halves, numbers, text, at);
+    }
+    long::of(q.arm, a, line, src, halves, numbers, text, at)
+}
+
+fn answer(line: &mut [u8], text: &mut [u8], at: usize) -> usize {
+    let mut halves = halves_room();
+    let mut numbers = numbers_room();
+    let end = slice::find(line, 0, b' ');
+    let q = question::named(slice::part(line, 0, end));
+    let a = question::read(q, line, end, &mut halves, &mut numbers);
+    if !q.ok || !a.ok {
+        return print::unknown(text, at);
+    }
+    reply(q, a, line, &halves, &numbers, text, at)
 }
 
 // An answer with its line end; of a line that is too long not all is there.
-fn answer_line(
-    line: &mut [u8],
-    is_long: bool,
-    out: &mut [u8],
-    halves: &mut [u16],
-    numbers: &mut [u32],
-    text: &mut [u8],
-    at: usize,
-) -> usize {
+fn answer_line(line: &mut [u8], is_long: bool, text: &mut [u8], at: usize) -> usize {
     if is_long || input::is_too_long(line) {
         let o = print::unknown(text, at);
         return print::put(text, o, b'\n');
     }
-    let o = answer(line, out, halves, numbers, text, at);
+    let o = answer(line, text, at);
     print::put(text, o, b'\n')
 }
 
-// Answers each line that ends before a place; the first has no end in what was held.
-fn answer_lines(
-    lines: &mut [u8],
-    held: Held,
-    end: usize,
-    out: &mut [u8],
-    halves: &mut [u16],
-    numbers: &mut [u32],
-    text: &mut [u8],
-) -> Done {
+// Answers each line that ends before a place, as long as what is said can be written; the first has no end in what was held.
+fn answer_lines(lines: &mut [u8], held: Held, end: usize, text: &mut [u8]) -> Done {
     let mut start: usize = 0;
     let mut seen = held.end;
     let mut is_long = held.is_long;
@@ -102,15 +115,10 @@ fn answer_lines(
         if end <= stop {
             return Done { start, is_long, at };
         }
-        at = answer_line(
-            slice::part_mut(lines, start, stop),
-            is_long,
-            out,
-            halves,
-            numbers,
-            text,
-            at,
-        );
+        at = answer_line(slice::part_mut(lines, start, stop), is_long, text, at);
+        if print::is_lost(text, at) {
+            return Done { start, is_long, at };
+        }
         is_long = false;
         start = stop + 1;
         seen = start;
@@ -119,45 +127,26 @@ fn answer_lines(
 }
 
 // The last line, which has no end, if there is one.
-fn answer_last(
-    lines: &mut [u8],
-    held: Held,
-    out: &mut [u8],
-    halves: &mut [u16],
-    numbers: &mut [u32],
-    text: &mut [u8],
-) {
+fn answer_last(lines: &mut [u8], held: Held, text: &mut [u8]) {
     let end = held.end;
     let is_long = held.is_long;
     if is_long || 0 < end {
-        let at = answer_line(
-            slice::part_mut(lines, 0, end),
-            is_long,
-            out,
-            halves,
-            numbers,
-            text,
-            0,
-        );
+        let at = answer_line(slice::part_mut(lines, 0, end), is_long, text, 0);
         print::flush(text, at);
     }
 }
 
-fn answer_block(
-    lines: &mut [u8],
-    held: Held,
-    end: usize,
-    out: &mut [u8],
-    halves: &mut [u16],
-    numbers: &mut [u32],
-    text: &mut [u8],
-) -> Held {
-    let done = answer_lines(lines, held, end, out, halves, numbers, text);
-    print::flush(text, done.at);
-    input::keep(lines, done.start, end, done.is_long)
+fn answer_block(lines: &mut [u8], held: Held, end: usize, text: &mut [u8]) -> Turn {
+    let done = answer_lines(lines, held, end, text);
+    let ok = print::flush(text, done.at);
+    Turn {
+        held: input::keep(lines, done.start, end, done.is_long),
+        ok,
+    }
 }
 
-fn run(lines: &mut [u8], out: &mut [u8], halves: &mut [u16], numbers: &mut [u32], text: &mut [u8]) {
+// Until the input ends, or a reading or a writing fails.
+fn run(lines: &mut [u8], text: &mut [u8]) {
     let mut held = Held {
         end: 0,
         is_long: false,
@@ -165,21 +154,25 @@ fn run(lines: &mut [u8], out: &mut [u8], halves: &mut [u16], numbers: &mut [u32]
     // the input ends before the turns do
     let mut turns = u64::MAX;
     while turns > 0 {
-        let end = input::more(lines, held.end);
-        if end == held.end {
-            answer_last(lines, held, out, halves, numbers, text);
+        let came = input::more(lines, held.end);
+        if !came.ok {
             return;
         }
-        held = answer_block(lines, held, end, out, halves, numbers, text);
+        if came.end == held.end {
+            answer_last(lines, held, text);
+            return;
+        }
+        let turn = answer_block(lines, held, came.end, text);
+        if !turn.ok {
+            return;
+        }
+        held = turn.held;
         turns -= 1;
     }
 }
 
 fn main() {
     let mut lines = input::room();
-    let mut out = out_room();
-    let mut halves = halves_room();
-    let mut numbers = numbers_room();
     let mut text = io::large_buffer();
-    run(&mut lines, &mut out, &mut halves, &mut numbers, &mut text);
+    run(&mut lines, &mut text);
 }

@@ -13,13 +13,22 @@ use Rattle.wire.specs.Utf8.{points, encoded, encodedAll, utf8, utf8At}
 use Rattle.tree.specs.Table.{keptFrom, risesFrom, tableOk, nameAt, namesFrom, tableAt}
 use Rattle.tree.specs.Way.{climbed, fromRoot, way, depth, within, Walk}
 use Rattle.tree.specs.Path.{nameOf, pathOf, pathSaid}
-use Rattle.tree.proofs.Tested.{tested}
-use Rattle.tree.proofs.Ways.{one-walk}
+use Rattle.tree.proofs.laws.Tested.{tested}
+use Rattle.tree.proofs.laws.Ways.{one-walk}
 use Rattle.examples.specs.Table.{Example, shown, examples, objects}
 
 pub all-right : map (λ (e : Example). shown (e .given)) examples ≡ map (λ (e : Example). e .seen) examples
 unfolding after means located ofField endAt badText bare spanAt fieldAt bytes number cells signed pairs unitsAt textAt arrayAt shapeAt valuesAt rangeAt listAt formAt propertyAt isKind headerRest headerAt containerWord containerSaid paramBytes commandSaid points encoded encodedAll utf8 utf8At keptFrom risesFrom tableOk nameAt namesFrom tableAt climbed fromRoot way depth nameOf pathOf pathSaid
 all-right = refl
+
+-- the refusals of N7 and N10 by their numbers
+pub n7-is-2 : (badText 0) .no ≡ 2
+unfolding badText
+n7-is-2 = refl
+
+pub n10-is-1 : (endAt 0) .no ≡ 1
+unfolding endAt
+n10-is-1 = refl
 
 -- any walk of N16's table is that order
 pub n16-only : (l : List ℕ) → Walk (objects .parents) (within (objects .parents)) l → l ≡ 0 ∷ 1 ∷ 3 ∷ 2 ∷ []

@@ -7,7 +7,7 @@ use lib.IntN.{negsuc}
 use lib.ListN.{replicate}
 use Rattle.layout.specs.Answer.{Answer, got, refused, means, endAt, badText}
 use Rattle.layout.specs.Written.{Said, says, wordAt}
-use Rattle.wire.specs.Layout.{shape, Val, num, nums, str, nil, int, nat, pair, Reading, range, list}
+use Rattle.wire.specs.Layout.{UINT16, AUINT16, STR, shape, Val, num, nums, str, nil, int, nat, pair, Reading, range, list}
 use Rattle.wire.specs.Codecs.{value}
 use Rattle.wire.specs.Places.{valueAt, shapeIn}
 use Rattle.wire.specs.Property.{propertyAt, propertyIn}
@@ -19,7 +19,7 @@ use Rattle.session.specs.Calls.{openSession}
 use Rattle.session.specs.Transaction.{freshSession}
 use Rattle.tree.specs.Table.{Table, table}
 use Rattle.tree.specs.Path.{pathSaid}
-use Rattle.tree.proofs.Tested.{walkTest}
+use Rattle.tree.proofs.laws.Tested.{walkTest}
 
 -- what is given
 pub data Given : Type 0 where
@@ -93,7 +93,7 @@ n12 = 5 ∷ 0xD0 ∷ 0xFF ∷ 0xFF ∷ 1 ∷ 1 ∷ 0 ∷ 0 ∷ 2 ∷ 2 ∷ 0 ∷
 abbrev pub n12-reading : Reading
 n12-reading = record {
   code = 0xD005;
-  type = 0xFFFF;
+  type = STR;
   getset = 1;
   enable = 1;
   default = str [];
@@ -119,18 +119,18 @@ objects =
 abbrev pub examples : List Example
 examples =
     -- N1 UINT16, N2 INT16, N3 UINT128
-    whole 4 (0x34 ∷ 0x12 ∷ []) (num (nat 4660)) 2
+    whole UINT16 (0x34 ∷ 0x12 ∷ []) (num (nat 4660)) 2
     ∷ whole 3 (0xFE ∷ 0xFF ∷ []) (num (int (negsuc 1))) 2
     ∷ whole 10 n3 (num (pair 2 1)) 16
-    -- N4 the empty string, N5 the same with a count of 1, whose tidy bytes are N4's; N6 A; N7 an unpaired surrogate; N8 a pair, and its UTF-8
-    ∷ whole 0xFFFF (0 ∷ []) (str []) 1
-    ∷ example (a-value 0xFFFF (1 ∷ 0x41 ∷ 0 ∷ [])) (reads (got (str []) 3) (got (0 ∷ []) 3))
-    ∷ whole 0xFFFF (2 ∷ 0x41 ∷ 0 ∷ 0 ∷ 0 ∷ []) (str (0x41 ∷ [])) 5
-    ∷ example (a-value 0xFFFF (2 ∷ 0 ∷ 0xD8 ∷ 0 ∷ 0 ∷ [])) (reads (refused (badText 0)) (refused (badText 0)))
-    ∷ whole 0xFFFF n8 (str (0xD83D ∷ 0xDE00 ∷ [])) 7
+    -- N4 the empty string, N5 the same with a count of 1, whose tidy bytes are N4's; N6 A; N7 an unpaired surrogate, 2; N8 a pair, and its UTF-8
+    ∷ whole STR (0 ∷ []) (str []) 1
+    ∷ example (a-value STR (1 ∷ 0x41 ∷ 0 ∷ [])) (reads (got (str []) 3) (got (0 ∷ []) 3))
+    ∷ whole STR (2 ∷ 0x41 ∷ 0 ∷ 0 ∷ 0 ∷ []) (str (0x41 ∷ [])) 5
+    ∷ example (a-value STR (2 ∷ 0 ∷ 0xD8 ∷ 0 ∷ 0 ∷ [])) (reads (refused (badText 0)) (refused (badText 0)))
+    ∷ whole STR n8 (str (0xD83D ∷ 0xDE00 ∷ [])) 7
     ∷ example (a-text n8) (encodes (got (0xF0 ∷ 0x9F ∷ 0x98 ∷ 0x80 ∷ []) 7))
-    -- N9 AUINT16, N10 AUINT8 with a count past all bytes
-    ∷ whole 0x4004 (2 ∷ 0 ∷ 0 ∷ 0 ∷ 5 ∷ 0 ∷ 6 ∷ 0 ∷ []) (nums (nat 5 ∷ nat 6 ∷ [])) 8
+    -- N9 AUINT16, N10 AUINT8 with a count past all bytes, 1
+    ∷ whole AUINT16 (2 ∷ 0 ∷ 0 ∷ 0 ∷ 5 ∷ 0 ∷ 6 ∷ 0 ∷ []) (nums (nat 5 ∷ nat 6 ∷ [])) 8
     ∷ example (a-value 0x4002 (0xFF ∷ 0xFF ∷ 0xFF ∷ 0xFF ∷ [])) (reads (refused (endAt 0)) (refused (endAt 0)))
     -- N11 to N13 properties
     ∷ example (a-property n11) (describes (got n11-reading 12))

@@ -2,14 +2,15 @@
 -- Assumes nothing.
 use mathlib.Core.Path.{_≡_}
 use mathlib.Core.Logic.{_↔_}
-use mathlib.Core.List.{List}
+use mathlib.Core.List.{List, _++_}
 use Prim.Native.Nat.{ℕ, _≤_}
-use lib.ListN.{length, take}
+use lib.ListN.{length, take, drop}
 use Rattle.layout.specs.Answer.{Told, Answer, got, refused}
 use Rattle.layout.specs.Codec.{Codec}
 use Rattle.layout.specs.Bytes.{Bytes}
 use Rattle.layout.specs.Grammar.{loose, tidy, Grammar}
-use Rattle.layout.specs.Written.{Said, says, no}
+use Rattle.layout.specs.Placed.{Lies}
+use Rattle.layout.specs.Written.{Said, says, no, Wrote, tidied}
 
 -- the first n of the bytes s are a word of G, read as r
 pub record Prefix {R : Type 0} (G : Grammar R) (s : List ℕ) (r : R) (n : ℕ) : Type 0 where
@@ -40,3 +41,12 @@ pub record Tidies {R L : Type 0} (G : Grammar R) (mean : L → R) (write : R →
   pub declines : (t : Told) → x ≡ refused t → said ≡ no t
   pub tidy-word : (l : L) (n : ℕ) → x ≡ got l n → G tidy (write (mean l)) (mean l)
   pub gives-back : (l : L) (n : ℕ) → x ≡ got l n → write (mean l) ≡ take n s ↔ G tidy (take n s) (mean l)
+
+-- all of demand 3 for a reader of places that answered x of the bytes s, and for the tidy writer beside it
+pub record Kept {R L : Type 0} (G : Grammar R) (F : Codec R) (mean : L → R) (parts : L → List (ℕ × ℕ)) (s : List ℕ) (x : Answer L) : Type 0 where
+  pub exact : Exact G mean s x
+  pub inside : Lies parts 0 x
+  pub tidies : Tidies G mean (F .write) s x (tidied F s)
+  -- with room enough the tidy word stands at the front of the output, and nothing else is changed
+  pub writes : (old new : List ℕ) (answer : Answer (Unit {0})) → Wrote (tidied F s) old answer new → (l : L) (n : ℕ) → x ≡ got l n → length (F .write (mean l)) ≤ length old
+      → (answer ≡ got tt (length (F .write (mean l)))) × (new ≡ F .write (mean l) ++ drop (length (F .write (mean l))) old)

@@ -1,3 +1,4 @@
+pub mod Refusals
 pub mod Answer
 pub mod Bytes
 pub mod Grammar
@@ -6,3 +7,4 @@ pub mod Format
 pub mod Written
 pub mod Faithful
 pub mod Placed
+pub mod Fault

@@ -11,6 +11,7 @@ use Rattle.layout.specs.Answer.{Told, Answer, got, refused, Reader, bare
 use Rattle.layout.specs.Codec.{Codec}
 use Rattle.layout.specs.declared.Written.{Written}
 use Rattle.layout.specs.declared.Written.the-variants as written
+use Rattle.layout.specs.Refusals.{ROOM}
 
 -- a function of the writer's inputs alone: the bytes that are due, or the refusal
 pub data Said : Type 0 where
@@ -42,7 +43,7 @@ tidied F s = saidOf (wordAt F s 0)
 -- A refusal, or too little room (9), changes no byte; else the bytes stand at the front, and all past them is as it was
 unfoldable pub answerOf : Said → List ℕ → Answer (Unit {0})
 answerOf (no t) out = refused t
-answerOf (says bs) out = pick (leb (length bs) (length out)) (got tt (length bs)) (refused (bare 9))
+answerOf (says bs) out = pick (leb (length bs) (length out)) (got tt (length bs)) (refused (bare ROOM))
 
 unfoldable pub leftOf : Said → List ℕ → List ℕ
 leftOf (no t) out = out

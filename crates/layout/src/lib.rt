@@ -8,6 +8,35 @@ pub use write::copy;
 pub use write::least;
 pub use write::store;
 
+// The refusals by number. When each is given stands in specs/Refusals.antt.
+pub const END: u8 = 1;
+
+pub const TEXT: u8 = 2;
+
+pub const TRAIL: u8 = 3;
+
+pub const KIND: u8 = 4;
+
+pub const LENGTH: u8 = 5;
+
+pub const SIZE: u8 = 6;
+
+pub const TID: u8 = 7;
+
+pub const NOPHASE: u8 = 8;
+
+pub const ROOM: u8 = 9;
+
+pub const COUNT: u8 = 10;
+
+pub const TABLE: u8 = 11;
+
+pub const PLACE: u8 = 12;
+
+pub const RECORD: u8 = 13;
+
+pub const LONG: u8 = 14;
+
 pub struct Refusal {
     pub no: u8,
 }
@@ -22,14 +51,14 @@ pub enum Written {
 pub fn end_at(place: usize) -> Refusal
     ensures { λ r. ⌜ r ≡ endAt place ⌝ }
 {
-    Refusal { no: 1 }
+    Refusal { no: END }
 }
 
 // 2 TEXT: the string that starts at the place has an unpaired surrogate.
 pub fn bad_text(place: usize) -> Refusal
     ensures { λ r. ⌜ r ≡ badText place ⌝ }
 {
-    Refusal { no: 2 }
+    Refusal { no: TEXT }
 }
 
 // Any other refusal.

@@ -10,12 +10,11 @@ use lib.ListN.{length, length-append}
 use Rattle.layout.specs.Answer.{Told, pick}
 use Rattle.layout.specs.Written.{Put}
 use Rattle.names.specs.Names.{spelled, responseName, commandName}
-use Rattle.names.proofs.Spells.{Short, response-short, command-short}
+use Rattle.names.proofs.laws.Spells.{Short, response-short, command-short}
 use Rattle.wire.specs.declared.container.Container.{Container}
-use Rattle.recording.specs.declared.Record.{Record}
-use Rattle.recording.specs.declared.Content.{Content}
-use Rattle.recording.specs.declared.Content.the-variants as content
-use Rattle.recording.proofs.Rowed.{Stands, Small}
+use Rattle.recording.specs.Content.{Content, Record}
+use Rattle.recording.specs.Content as content
+use Rattle.recording.proofs.laws.Rowed.{Stands, Small}
 use Rattle.listing.specs.Lines.{decimal, hexCode, wayText, kindText, nameOr, nameFor, codeText, countsText, containerLine, noteLine, refusalLine, ending, contentLine, recordLine}
 use Rattle.listing.specs.Window.{lineRoom}
 use Rattle.listing.proofs.Numerals.{decimal-short, hex-length}
@@ -98,5 +97,5 @@ unfolding recordLine
 record-short place s x n h k p q = go (x .content) q
   where
     go : (c : Content) → Small s c → length (contentLine place (x .kind) (x .body .count) c) ≤ lineRoom
-    go content.Note q = note-short place (x .body .count) h (omega (arith, p .till, p .within))
-    go (content.Holds y) q = container-short place (x .kind) y h (omega (arith, q .0)) (omega (arith, q .1))
+    go content.note q = note-short place (x .body .count) h (omega (arith, p .till, p .within))
+    go (content.holds y) q = container-short place (x .kind) y h (omega (arith, q .0)) (omega (arith, q .1))

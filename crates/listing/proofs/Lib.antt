@@ -1,7 +1,12 @@
+pub mod laws
 pub mod Numerals
+pub mod Spelling
 pub mod Pieces
 pub mod Windows
+pub mod Cut
+pub mod Held
 pub mod Fitting
 pub mod Whole
+pub mod Runs
 pub mod Unique
 pub mod Example

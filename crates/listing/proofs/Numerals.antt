@@ -21,25 +21,27 @@ below b least n j k h p q l = let m : b ^ j ≤ b ^ (k - 1) = pow-le-pow-right h
 pub one-count : (b least n j k : ℕ) → 1 ≤ b → Fewest b least n j → Fewest b least n k → j ≡ k
 one-count b least n j k h p q = omega (arith, below b least n j k h p q, below b least n k j h q p)
 
+module _ (n : ℕ) where
+  high : (k : ℕ) → 10 ≤ n → Fewest 10 1 (n / 10) k → (b : Bool) → leb k 1 ≡ b → 10 ^ k ≤ n
+  high k t p true e = let i : k ≡ 1 = omega (arith, leb-true k 1 e, p .0) in rw i t
+  high k t p false e =
+      let i : k ≡ suc (k - 1) = omega (arith, p .0) in
+      let j = leb-false k 1 e in
+      let q : 10 ^ suc (k - 1) ≤ n = omega (arith, pow-suc 10 (k - 1), p .2 (omega arith)) in
+      rw (← i) at q
+
+  -- a number of more than one digit has one more than its tenth
+  pub more : (k : ℕ) → 10 ≤ n → Fewest 10 1 (n / 10) k → Fewest 10 1 n (suc k)
+  more k t p = (omega arith, omega (arith, pow-suc 10 k, p .1), λ l. let i : suc k - 1 ≡ k = omega arith in rw i (high k t p (leb k 1) refl))
+
 pub fewest : (f n : ℕ) → n ≤ f → Fewest 10 1 n (digitsOf f n)
 unfolding digitsOf
 fewest zero n h = (omega arith, omega arith, λ l. omega arith)
 fewest (suc f) n h = go (ltb n 10) refl (fewest f (n / 10))
   where
-    high : (k : ℕ) → 10 ≤ n → Fewest 10 1 (n / 10) k → (b : Bool) → leb k 1 ≡ b → 10 ^ k ≤ n
-    high k t p true e = let i : k ≡ 1 = omega (arith, leb-true k 1 e, p .0) in rw i t
-    high k t p false e =
-        let i : k ≡ suc (k - 1) = omega (arith, p .0) in
-        let j = leb-false k 1 e in
-        let q : 10 ^ suc (k - 1) ≤ n = omega (arith, pow-suc 10 (k - 1), p .2 (omega arith)) in
-        rw (← i) at q
-
-    more : (k : ℕ) → 10 ≤ n → Fewest 10 1 (n / 10) k → Fewest 10 1 n (suc k)
-    more k t p = (omega arith, omega (arith, pow-suc 10 k, p .1), λ l. let i : suc k - 1 ≡ k = omega arith in rw i (high k t p (leb k 1) refl))
-
     go : (b : Bool) → ltb n 10 ≡ b → (n / 10 ≤ f → Fewest 10 1 (n / 10) (digitsOf f (n / 10))) → Fewest 10 1 n (pick b 1 (suc (digitsOf f (n / 10))))
     go true e r = let t = ltb-true n 10 e in (omega arith, omega arith, λ l. omega arith)
-    go false e r = let t = ltb-false n 10 e in more (digitsOf f (n / 10)) t (r (omega arith))
+    go false e r = let t = ltb-false n 10 e in more n (digitsOf f (n / 10)) t (r (omega arith))
 
 pub decimal-is : (n k : ℕ) → Fewest 10 1 n k → digits 10 k n ≡ decimal n
 unfolding decimal
@@ -53,6 +55,9 @@ hex-is n k h p = one-count 16 4 n k 4 (omega arith) p (omega arith, h, λ l. ome
 pub digits-length : (b k n : ℕ) → length (digits b k n) ≡ k
 digits-length b zero n = refl
 digits-length b (suc k) n = omega (arith, length-append (digits b k (n / b)) (glyph (n % b) ∷ []), digits-length b k (n / b))
+
+pub decimal-length : (n k : ℕ) → Fewest 10 1 n k → length (decimal n) ≡ k
+decimal-length n k p = rw (← decimal-is n k p) (digits-length 10 k n)
 
 tens : (i j : ℕ) → i ≤ j → 10 ^ i ≤ 10 ^ j
 tens i j h = pow-le-pow-right (lit≤ tt) h

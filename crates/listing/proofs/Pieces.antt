@@ -7,9 +7,9 @@ use Prim.Native.Nat.{ℕ, _+_, _≤_}
 use native.Mathlib.Omega.{arith}
 use lib.ListN.{length, length-append}
 use Rattle.layout.specs.Written.{Put, roomed}
-use Rattle.layout.proofs.Stored.{first, more}
-use Rattle.recording.specs.declared.Record.{Record}
-use Rattle.recording.specs.declared.Content.the-variants as content
+use Rattle.layout.proofs.laws.Stored.{first, more}
+use Rattle.recording.specs.Content.{Record}
+use Rattle.recording.specs.Content as content
 use Rattle.wire.specs.declared.container.Container.{Container}
 use Rattle.listing.specs.Lines.{decimal, hexCode, wayText, kindText, nameFor, codeText, countsText, containerLine, noteLine, recordLine}
 
@@ -43,11 +43,11 @@ pub code-nameless : (kind code : ℕ) → none ≡ nameFor kind code → codeTex
 unfolding codeText
 code-nameless kind code e = rw (← e)
 
-pub record-note : (place : ℕ) (x : Record) → x .content ≡ content.Note → recordLine place x ≡ noteLine place (x .body .count)
+pub record-note : (place : ℕ) (x : Record) → x .content ≡ content.note → recordLine place x ≡ noteLine place (x .body .count)
 unfolding recordLine
 record-note place x e = rw e
 
-pub record-holds : (place : ℕ) (x : Record) {c : Container} → x .content ≡ content.Holds c → recordLine place x ≡ containerLine place (x .kind) c
+pub record-holds : (place : ℕ) (x : Record) {c : Container} → x .content ≡ content.holds c → recordLine place x ≡ containerLine place (x .kind) c
 unfolding recordLine
 record-holds place x e = rw e
 

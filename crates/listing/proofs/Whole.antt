@@ -13,12 +13,12 @@ use lib.Dec.{leb, ltb}
 use lib.ListN.{length, drop, length-append, length-drop}
 use lib.Seq.{drop-drop, drop-append-le}
 use Rattle.layout.specs.Answer.{Answer, got, refused, pick}
-use Rattle.layout.proofs.Accepted.{Accepts}
-use Rattle.layout.proofs.Tidied.{zero-one}
-use Rattle.recording.specs.declared.Record.{Record}
+use Rattle.layout.proofs.laws.Accepted.{Accepts}
+use Rattle.layout.proofs.laws.Tidied.{zero-one}
+use Rattle.recording.specs.Content.{Record}
 use Rattle.recording.specs.Record.{recordOf}
 use Rattle.recording.specs.Row.{isCut}
-use Rattle.recording.proofs.Rowed.{Stands, record-stands, records-none, records-step, uncut-same}
+use Rattle.recording.proofs.laws.Rowed.{Stands, record-stands, records-none, records-step, uncut-same}
 use Rattle.listing.specs.Lines.{heading, recordLine, refusalLine, ending}
 use Rattle.listing.specs.Listing.{remaining, listing}
 use Rattle.listing.specs.Window.{lineRoom, Windowed, rests, after-line, waits, windowOf}
@@ -27,7 +27,7 @@ use Rattle.listing.proofs.Windows.{has-bytes, window-full, window-waits
 
 -- ── what remains, a record at a time ──
 
-remaining-none : (place records : ℕ) → remaining place records [] ≡ ending records place
+pub remaining-none : (place records : ℕ) → remaining place records [] ≡ ending records place
 unfolding remaining
 remaining-none place records = rw (records-none [] (omega arith))
 

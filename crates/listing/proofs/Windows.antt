@@ -12,13 +12,13 @@ use lib.ListN.{length, take, drop, length-drop}
 use lib.Seq.{drop-drop, take-length}
 use Rattle.layout.specs.Answer.{Answer, Told, got, refused, pick}
 use Rattle.layout.specs.Written.{Put}
-use Rattle.layout.proofs.Accepted.{Accepts, accepts-all}
-use Rattle.layout.proofs.Tidied.{zero-one}
-use Rattle.layout.proofs.Writing.{Owes, start, part, end, long, put-front}
-use Rattle.recording.specs.declared.Record.{Record}
+use Rattle.layout.proofs.laws.Accepted.{Accepts, accepts-all}
+use Rattle.layout.proofs.laws.Tidied.{zero-one}
+use Rattle.layout.proofs.laws.Writing.{Owes, start, part, end, long, put-front}
+use Rattle.recording.specs.Content.{Record}
 use Rattle.recording.specs.Record.{recordOf}
 use Rattle.recording.specs.Row.{isCut}
-use Rattle.recording.proofs.Rowed.{Stands, record-stands}
+use Rattle.recording.proofs.laws.Rowed.{Stands, record-stands}
 use Rattle.listing.specs.Lines.{recordLine, refusalLine}
 use Rattle.listing.specs.Window.{answered, lineRoom, Windowed, rests, after-line, lined, waits, windowFrom, windowOf, Lists}
 

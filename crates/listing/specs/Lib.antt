@@ -2,3 +2,5 @@ pub mod Lines
 pub mod Listing
 pub mod Window
 pub mod Printed
+pub mod Turn
+pub mod Run

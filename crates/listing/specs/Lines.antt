@@ -8,9 +8,8 @@ use Rattle.io.specs.Digits.{digits}
 use Rattle.layout.specs.Answer.{Told, pick}
 use Rattle.names.specs.Names.{spelled, responseName, commandName}
 use Rattle.wire.specs.declared.container.Container.{Container}
-use Rattle.recording.specs.declared.Record.{Record}
-use Rattle.recording.specs.declared.Content.{Content}
-use Rattle.recording.specs.declared.Content.the-variants as content
+use Rattle.recording.specs.Content.{Content, Record}
+use Rattle.recording.specs.Content as content
 
 -- ── numbers ──
 
@@ -67,8 +66,8 @@ unfoldable pub ending : ℕ → ℕ → List ℕ
 ending records count = spelled "records " ++ decimal records ++ spelled " bytes " ++ decimal count ++ spelled "\n"
 
 abbrev pub contentLine : ℕ → ℕ → ℕ → Content → List ℕ
-contentLine place kind count content.Note = noteLine place count
-contentLine place kind count (content.Holds x) = containerLine place kind x
+contentLine place kind count content.note = noteLine place count
+contentLine place kind count (content.holds x) = containerLine place kind x
 
 -- of the record at a place
 unfoldable pub recordLine : ℕ → Record → List ℕ

@@ -3,7 +3,7 @@
 use mathlib.Core.List.{List, [], _∷_, _++_}
 use Prim.Native.Nat.{ℕ, suc, _+_}
 use Rattle.layout.specs.Answer.{Answer, got, refused}
-use Rattle.recording.specs.declared.Record.{Record}
+use Rattle.recording.specs.Content.{Record}
 use Rattle.recording.specs.Row.{recordsIn}
 use Rattle.listing.specs.Lines.{heading, recordLine, refusalLine, ending}
 

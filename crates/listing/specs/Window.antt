@@ -7,7 +7,7 @@ use Prim.Native.Nat.{ℕ, zero, suc, _+_, _-_, _%_, _^_}
 use lib.Dec.{leb, ltb}
 use lib.ListN.{length, drop}
 use Rattle.layout.specs.Answer.{Answer, got, refused, pick}
-use Rattle.recording.specs.declared.Record.{Record}
+use Rattle.recording.specs.Content.{Record}
 use Rattle.recording.specs.Record.{recordOf}
 use Rattle.recording.specs.Row.{isCut}
 use Rattle.listing.specs.declared.Listed.{Listed}

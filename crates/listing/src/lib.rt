@@ -7,10 +7,20 @@ ghost use Rattle.listing.specs.Lines.{heading, ending};
 ghost use Rattle.listing.specs.Window.{answered, windowOf, Lists};
 ghost use Rattle.listing.specs.Window.{waits as Window·waits};
 
+mod decimal;
 mod line;
+mod turn;
 
 use layout::Written;
 use recording::ReadRecord;
+pub use turn::Next;
+pub use turn::Stage;
+pub use turn::Stand;
+pub use turn::Turn;
+pub use turn::join;
+pub use turn::keep;
+pub use turn::start;
+pub use turn::take_turn;
 
 // How far the listing has come: the place of the next record, and the whole records before it.
 pub struct Tally {
@@ -33,11 +43,10 @@ const LINE_ROOM: usize = 128;
 pub fn write_heading(out: &mut [u8]) -> Written
     ensures { λ r. ⌜ Wrote (says heading) (now (out .entry)) (saysWritten r) (now (out .exit)) ⌝ }
 {
-    let text = b"place way kind code tid bytes\n";
     if out.len() < 30 {
-        return Written::Refused(layout::plain(9));
+        return Written::Refused(layout::plain(layout::ROOM));
     }
-    Written::Done(layout::copy(text, 0, 30, out, 0))
+    Written::Done(line::put_heading(out))
 }
 
 // Nothing more is to be listed of these bytes now.
@@ -74,9 +83,6 @@ fn list_from(s: &[u8], last: bool, start: u64, count: u64, names: &[u8], out: &m
     let mut records = count;
     while out.len() - written >= LINE_ROOM {
         let part = &s[used..];
-        if waits(part, last) {
-            return answer(used, written, place, records, false);
-        }
         match recording::read_record(part) {
             ReadRecord::Got(x, next) => {
                 let taken = next.at;
@@ -86,6 +92,9 @@ fn list_from(s: &[u8], last: bool, start: u64, count: u64, names: &[u8], out: &m
                 records = std::num::wrapping_add_u64(records, 1);
             }
             ReadRecord::Refused(f) => {
+                if waits(part, last) {
+                    return answer(used, written, place, records, false);
+                }
                 written = line::put_refusal(place, f, out, written);
                 return answer(used, written, place, records, true);
             }
@@ -96,6 +105,8 @@ fn list_from(s: &[u8], last: bool, start: u64, count: u64, names: &[u8], out: &m
 
 // Lists the whole records of a window of the recording, as long as 128 bytes of room are left. `last` says that the input ends with the
 // window: then a record that is cut is refused, and else it waits for more bytes.
+// With less than 128 bytes of room it lists nothing and refuses nothing: room that is used up is how a long listing goes on, in the next
+// call's output, and a caller with room for no line at all sees that nothing was used.
 pub fn list_window(s: &[u8], last: bool, from: Tally, out: &mut [u8]) -> Listed
     ensures { λ r. ⌜ Lists (windowOf last (length (now (out .entry))) (now (s .entry)) (from .place) (from .records)) (now (out .entry)) r (now (out .exit)) ⌝ }
 {
@@ -110,7 +121,7 @@ pub fn write_ending(tally: Tally, out: &mut [u8]) -> Written
     let mut text = [0u8; 64];
     let n = line::put_ending(tally.records, tally.place, &mut text);
     if out.len() < n {
-        return Written::Refused(layout::plain(9));
+        return Written::Refused(layout::plain(layout::ROOM));
     }
     Written::Done(layout::copy(&text[..n], 0, n, out, 0))
 }

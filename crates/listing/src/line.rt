@@ -5,20 +5,14 @@ ghost use lib.ListN.{length};
 ghost use Rattle.layout.specs.Written.{Put, roomed};
 ghost use Rattle.names.specs.Names.{nameBytes, given};
 ghost use Rattle.names.specs.Says.{saysName, bytesAt};
-ghost use Rattle.listing.specs.Lines.{decimal, hexCode, wayText, kindText, nameFor, codeText, countsText, containerLine, noteLine, refusalLine, recordLine, ending};
+ghost use Rattle.recording.specs.Record.{recordFrom};
+ghost use Rattle.listing.specs.Lines.{heading, decimal, hexCode, wayText, kindText, nameFor, codeText, countsText, containerLine, noteLine, refusalLine, recordLine, ending};
+use crate::decimal;
 use layout::Refusal;
 use names::Name;
 use recording::Content;
 use recording::Record;
 use wire::Container;
-
-fn put_decimal(n: u64, out: &mut [u8], at: usize) -> usize
-    ensures { λ r. ⌜ Put (now (out .entry)) at (roomed (now (out .entry)) at (decimal n)) (now (out .exit)) r ⌝ }
-{
-    let mut text = [0u8; 20];
-    let k = io::decimal(n, &mut text);
-    layout::copy(&text[..k], 0, k, out, at)
-}
 
 fn put_hex(code: u16, out: &mut [u8], at: usize) -> usize
     requires { ⌜ at + length (hexCode code) ≤ length (now out) ⌝ }
@@ -82,9 +76,9 @@ fn put_counts(number: u64, count: u64, out: &mut [u8], at: usize) -> usize
     ensures { λ r. ⌜ Put (now (out .entry)) at (countsText number count) (now (out .exit)) r ⌝ }
 {
     let a = layout::copy(b" ", 0, 1, out, at);
-    let b = put_decimal(number, out, a);
+    let b = decimal::put(number, out, a);
     let c = layout::copy(b" ", 0, 1, out, b);
-    let d = put_decimal(count, out, c);
+    let d = decimal::put(count, out, c);
     layout::copy(b"\n", 0, 1, out, d)
 }
 
@@ -100,7 +94,7 @@ fn put_container(
     ensures { λ r. ⌜ Put (now (out .entry)) at (containerLine place kind x) (now (out .exit)) r ⌝ }
 {
     let payload = x.payload;
-    let a = put_decimal(place, out, at);
+    let a = decimal::put(place, out, at);
     let b = put_way(kind, out, a);
     let c = put_kind(x.kind, out, b);
     let d = put_code(x.kind, x.code, names, out, c);
@@ -111,9 +105,9 @@ fn put_note(place: u64, count: u64, out: &mut [u8], at: usize) -> usize
     requires { ⌜ at + length (noteLine place count) ≤ length (now out) ⌝ }
     ensures { λ r. ⌜ Put (now (out .entry)) at (noteLine place count) (now (out .exit)) r ⌝ }
 {
-    let a = put_decimal(place, out, at);
+    let a = decimal::put(place, out, at);
     let b = layout::copy(b" note ", 0, 6, out, a);
-    let c = put_decimal(count, out, b);
+    let c = decimal::put(count, out, b);
     layout::copy(b"\n", 0, 1, out, c)
 }
 
@@ -121,15 +115,15 @@ pub(crate) fn put_refusal(place: u64, f: Refusal, out: &mut [u8], at: usize) -> 
     requires { ⌜ at + length (refusalLine place f) ≤ length (now out) ⌝ }
     ensures { λ r. ⌜ Put (now (out .entry)) at (refusalLine place f) (now (out .exit)) r ⌝ }
 {
-    let a = put_decimal(place, out, at);
+    let a = decimal::put(place, out, at);
     let b = layout::copy(b" refusal ", 0, 9, out, a);
-    let c = put_decimal(f.no as u64, out, b);
+    let c = decimal::put(f.no as u64, out, b);
     layout::copy(b"\n", 0, 1, out, c)
 }
 
 pub(crate) fn put_record(place: u64, x: Record, names: &[u8], out: &mut [u8], at: usize) -> usize
-    requires { ⌜ (now names ≡ nameBytes) × (at + length (recordLine place x) ≤ length (now out)) ⌝ }
-    ensures { λ r. ⌜ Put (now (out .entry)) at (recordLine place x) (now (out .exit)) r ⌝ }
+    requires { ⌜ (now names ≡ nameBytes) × (at + length (recordLine place (recordFrom x)) ≤ length (now out)) ⌝ }
+    ensures { λ r. ⌜ Put (now (out .entry)) at (recordLine place (recordFrom x)) (now (out .exit)) r ⌝ }
 {
     let content = x.content;
     let body = x.body;
@@ -139,13 +133,20 @@ pub(crate) fn put_record(place: u64, x: Record, names: &[u8], out: &mut [u8], at
     }
 }
 
+pub(crate) fn put_heading(out: &mut [u8]) -> usize
+    requires { ⌜ 30 ≤ length (now out) ⌝ }
+    ensures { λ r. ⌜ Put (now (out .entry)) 0 heading (now (out .exit)) r ⌝ }
+{
+    layout::copy(b"place way kind code tid bytes\n", 0, 30, out, 0)
+}
+
 pub(crate) fn put_ending(records: u64, count: u64, out: &mut [u8]) -> usize
     requires { ⌜ 64 ≤ length (now out) ⌝ }
     ensures { λ r. ⌜ Put (now (out .entry)) 0 (ending records count) (now (out .exit)) r × (r ≤ 64) ⌝ }
 {
     let a = layout::copy(b"records ", 0, 8, out, 0);
-    let b = put_decimal(records, out, a);
+    let b = decimal::put(records, out, a);
     let c = layout::copy(b" bytes ", 0, 7, out, b);
-    let d = put_decimal(count, out, c);
+    let d = decimal::put(count, out, c);
     layout::copy(b"\n", 0, 1, out, d)
 }

@@ -1,5 +1,3 @@
+pub mod laws
 pub mod Tables
-pub mod Spells
-pub mod Arms
-pub mod Naming
 pub mod Unique

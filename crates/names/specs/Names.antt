@@ -2,10 +2,10 @@
 -- Assumes nothing.
 use mathlib.Core.List.{List, [], _∷_, _++_}
 use mathlib.Core.Option.{Option, none, some}
-use Prim.Native.Nat.{ℕ, _+_, _-_, _*_, _/_, _%_}
+use Prim.Native.Nat.{ℕ, _+_, _-_}
 use Prim.Native.Char.{code}
 use Prim.Native.String.{String, [] as blank, _∷_ as _before_}
-use lib.Dec.{leb, ltb, eqb}
+use lib.Dec.{leb, ltb}
 use lib.ListN.{length, take, getD}
 use Rattle.layout.specs.Answer.{pick}
 
@@ -129,17 +129,3 @@ responsePlace code = given (placeAt 0 responses) (entryOf 0x2000 (length respons
 
 unfoldable pub commandPlace : ℕ → Option (ℕ × ℕ)
 commandPlace code = given (placeAt (length (joined responses)) commands) (entryOf 0x1000 (length commands) code)
-
--- ── as an entry of the tables, in one number: no name has 64 bytes ──
-
-abbrev pub packed : ℕ × ℕ → ℕ
-packed p = p .0 * 64 + p .1
-
--- 0 for none
-abbrev pub entry : Option (ℕ × ℕ) → ℕ
-entry none = 0
-entry (some p) = packed p
-
--- and back
-abbrev pub unpacked : ℕ → Option (ℕ × ℕ)
-unpacked e = pick (eqb e 0) none (some (e / 64, e % 64))

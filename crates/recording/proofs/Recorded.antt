@@ -9,19 +9,18 @@ use borrow.Author.Tests.{le-leb, lt-leb, leb-true}
 use lib.Dec.{leb}
 use lib.ListN.{length, take, drop, length-append}
 use lib.Seq.{take-length}
-use Rattle.layout.specs.Answer.{Answer, Told, got, refused, bare, pick, after, means, endAt}
+use Rattle.layout.specs.Answer.{Told, got, refused, bare, pick, means, endAt}
 use Rattle.layout.specs.Bytes.{bytes, number}
 use Rattle.layout.specs.Written.{says, no, saidOf, Put, roomed}
-use Rattle.layout.proofs.Accepted.{accepted, accepts-field}
-use Rattle.layout.proofs.Make.{span-there, span-short}
-use Rattle.layout.proofs.Numbers.{length-bytes}
-use Rattle.layout.proofs.Tidied.{zero-one}
-use Rattle.layout.proofs.Stored.{first, more}
+use Rattle.layout.proofs.laws.Accepted.{accepted, accepts-field}
+use Rattle.layout.proofs.laws.Make.{span-there, span-short}
+use Rattle.layout.proofs.laws.Numbers.{length-bytes}
+use Rattle.layout.proofs.laws.Tidied.{zero-one}
+use Rattle.layout.proofs.laws.Stored.{first, more}
+use Rattle.layout.specs.Refusals.{END, RECORD, LONG}
 use Rattle.wire.specs.Places.{numAt}
-use Rattle.recording.specs.declared.Content.{Content}
-use Rattle.recording.specs.declared.Record.{Record}
+use Rattle.recording.specs.Content.{Content}
 use Rattle.recording.specs.Record.{limit, isKind, begins, contentAt, bodyAt, recordWord, recordSaid}
-use Rattle.recording.specs.Row.{orCut}
 
 -- a number that was read ends within the bytes
 pub field-ends : (w : ℕ) (s : List ℕ) (at : ℕ) {v n : ℕ} → got v n ≡ numAt w s at → 0 < w → n ≤ length s
@@ -37,30 +36,32 @@ long-enough len kind e = go (leb 6 len) refl e
 -- ── reading ──
 
 module _ (len kind : ℕ) (s : List ℕ) (start : ℕ) where
-  pub body-13 : {t : Told} → begins len kind ≡ false → t ≡ bare 13 → refused t ≡ bodyAt len kind s start
+  pub body-13 : {t : Told} → begins len kind ≡ false → t ≡ bare RECORD → refused t ≡ bodyAt len kind s start
   unfolding bodyAt
   body-13 e h = rw (e, h)
 
-  pub body-14 : {t : Told} → begins len kind ≡ true → limit < len - 6 → t ≡ bare 14 → refused t ≡ bodyAt len kind s start
+  pub body-14 : {t : Told} → begins len kind ≡ true → limit < len - 6 → t ≡ bare LONG → refused t ≡ bodyAt len kind s start
   unfolding bodyAt
   body-14 e l h = rw (e, lt-leb (len - 6) limit l, h)
 
   pub body-short : {t : Told} → begins len kind ≡ true → len - 6 ≤ limit → length s - start < len - 6 → t ≡ endAt start → refused t ≡ bodyAt len kind s start
-  unfolding bodyAt after
+  unfolding bodyAt means
   body-short e l k h = rw (e, le-leb (len - 6) limit l, span-short start (len - 6) s start k, h)
 
   pub body-there :
-      {z : Answer Record} → begins len kind ≡ true → len - 6 ≤ limit → len - 6 ≤ length s - start →
-      z ≡ means (λ c. record { kind = kind; body = record { start = start; count = len - 6 }; content = c }) (contentAt kind (take (start + (len - 6)) s) start) → z ≡ bodyAt len kind s start
-  unfolding bodyAt after
-  body-there e l k h = rw (e, le-leb (len - 6) limit l, span-there start (len - 6) s start k) h
+      begins len kind ≡ true → len - 6 ≤ limit → len - 6 ≤ length s - start →
+      got (record { kind = kind; body = record { start = start; count = len - 6 } }) (start + (len - 6)) ≡ bodyAt len kind s start
+  unfolding bodyAt means
+  body-there e l k = rw (e, le-leb (len - 6) limit l, span-there start (len - 6) s start k)
 
--- whether a record is cut: past a number that is there, and at one that is not
-pub past-cut : {A : Type 0} {x : Answer A} (k : A → ℕ → Bool) {a : A} {n : ℕ} {b : Bool} → got a n ≡ x → b ≡ k a n → b ≡ orCut x k
-past-cut k e h = rw (← e) h
+-- by its number a refusal is END or is not
+pub end-no : (place : ℕ) → endAt place .no ≡ END
+unfolding endAt
+end-no place = refl
 
-pub at-cut : {A : Type 0} {x : Answer A} (k : A → ℕ → Bool) {t : Told} → refused t ≡ x → true ≡ orCut x k
-at-cut k e = rw (← e)
+pub bare-no : (number : ℕ) → bare number .no ≡ number
+unfolding bare
+bare-no number = refl
 
 -- ── writing ──
 
@@ -81,11 +82,11 @@ module _ (kind : ℕ) (body : List ℕ) where
       (bytes 2 kind) (simp length-bytes (omega arith)) q)
       body (simp (length-append, length-bytes) (omega arith)) (rw (take-length body) at r)
 
-  pub said-13 : isKind kind ≡ false → recordSaid kind body ≡ no (bare 13)
+  pub said-13 : isKind kind ≡ false → recordSaid kind body ≡ no (bare RECORD)
   unfolding recordSaid
   said-13 e = rw e
 
-  pub said-14 : isKind kind ≡ true → limit < length body → recordSaid kind body ≡ no (bare 14)
+  pub said-14 : isKind kind ≡ true → limit < length body → recordSaid kind body ≡ no (bare LONG)
   unfolding recordSaid
   said-14 e h = rw (e, lt-leb (length body) limit h)
 

@@ -1,2 +1,5 @@
+pub mod Content
 pub mod Record
 pub mod Row
+pub mod Refused
+pub mod Returned

@@ -8,11 +8,17 @@ use lib.ListN.{length, take}
 use Rattle.layout.specs.Answer.{Answer, got, refused, Reader, pick, after, means, bare, spanAt}
 use Rattle.layout.specs.Bytes.{bytes}
 use Rattle.layout.specs.Written.{Said, no, saidOf}
+use Rattle.layout.specs.Refusals.{TRAIL, RECORD, LONG}
 use Rattle.wire.specs.Places.{numAt}
 use Rattle.wire.specs.Container.{containerAt}
-use Rattle.recording.specs.declared.Content.{Content}
-use Rattle.recording.specs.declared.Content.the-variants as content
-use Rattle.recording.specs.declared.Record.{Record}
+use Rattle.recording.specs.Content.{Content, Record}
+use Rattle.recording.specs.Content as content
+use Rattle.recording.specs.declared.Content as declared
+use Rattle.recording.specs.declared.Content.the-variants as variants
+use Rattle.recording.specs.declared.Record as declared-record
+use Rattle.recording.specs.declared.Head.{Head}
+use Rattle.recording.specs.declared.ReadHead.{ReadHead}
+use Rattle.recording.specs.declared.ReadHead.the-variants as readHead
 use Rattle.recording.specs.declared.ReadContent.{ReadContent}
 use Rattle.recording.specs.declared.ReadContent.the-variants as readContent
 use Rattle.recording.specs.declared.ReadRecord.{ReadRecord}
@@ -34,26 +40,32 @@ begins len kind = pick (leb 6 len) (isKind kind) false
 -- a note is any bytes; else a container, refused in its own order, and 3 where bytes follow it
 unfoldable pub contentAt : ℕ → Reader Content
 contentAt kind s at =
-    pick (eqb kind 3) (got content.Note (length s))
-    (after (containerAt s at) λ x n. pick (eqb n (length s)) (got (content.Holds x) n) (refused (bare 3)))
+    pick (eqb kind 3) (got content.note (length s))
+    (after (containerAt s at) λ x n. pick (eqb n (length s)) (got (content.holds x) n) (refused (bare TRAIL)))
 
 -- ── reading, from the front of the bytes ──
 
--- 13: a length below 6, or another kind; 14: a body over the limit; 1: a body that is not whole; then what the body refuses
-unfoldable pub bodyAt : ℕ → ℕ → Reader Record
+-- 13: a length below 6, or another kind; 14: a body over the limit; 1: a body that is not whole
+unfoldable pub bodyAt : ℕ → ℕ → Reader Head
 bodyAt len kind s start =
     pick (begins len kind)
     (pick (leb (len - 6) limit)
-    (after (spanAt start (len - 6) s start) λ _ next.
-    means (λ c. record { kind = kind; body = record { start = start; count = len - 6 }; content = c }) (contentAt kind (take next s) start))
-    (refused (bare 14)))
-    (refused (bare 13))
+    (means (λ _. record { kind = kind; body = record { start = start; count = len - 6 } }) (spanAt start (len - 6) s start))
+    (refused (bare LONG)))
+    (refused (bare RECORD))
 
-unfoldable pub recordOf : List ℕ → Answer Record
-recordOf s =
+-- the kind and where the body stands, with the place after it
+unfoldable pub headOf : List ℕ → Answer Head
+headOf s =
     after (numAt 4 s 0) λ len a.
     after (numAt 2 s a) λ kind start.
     bodyAt len kind s start
+
+-- then what the body refuses
+unfoldable pub recordOf : List ℕ → Answer Record
+recordOf s =
+    after (headOf s) λ h end.
+    means (λ c. record { kind = h .kind; body = h .body; content = c }) (contentAt (h .kind) (take end s) (h .body .start))
 
 -- ── writing, by the same rules ──
 
@@ -63,15 +75,26 @@ recordWord kind body = bytes 4 (6 + length body) ++ bytes 2 kind ++ body
 unfoldable pub recordSaid : ℕ → List ℕ → Said
 recordSaid kind body =
     pick (isKind kind)
-    (pick (leb (length body) limit) (saidOf (means (λ _. recordWord kind body) (contentAt kind body 0))) (no (bare 14)))
-    (no (bare 13))
+    (pick (leb (length body) limit) (saidOf (means (λ _. recordWord kind body) (contentAt kind body 0))) (no (bare LONG)))
+    (no (bare RECORD))
 
 -- ── this paper's values for each case ──
 
-abbrev pub saysContent : ReadContent → Answer Content
-saysContent (readContent.Got x c) = got x (c .at)
-saysContent (readContent.Refused t) = refused t
+abbrev pub saysContent : declared.Content → Content
+saysContent variants.Note = content.note
+saysContent (variants.Holds x) = content.holds x
+
+abbrev pub saysReadContent : ReadContent → Answer Content
+saysReadContent (readContent.Got x c) = got (saysContent x) (c .at)
+saysReadContent (readContent.Refused t) = refused t
+
+abbrev pub saysHead : ReadHead → Answer Head
+saysHead (readHead.Got h c) = got h (c .at)
+saysHead (readHead.Refused t) = refused t
+
+abbrev pub recordFrom : declared-record.Record → Record
+recordFrom x = record { kind = x .kind; body = x .body; content = saysContent (x .content) }
 
 abbrev pub saysRecord : ReadRecord → Answer Record
-saysRecord (readRecord.Got x c) = got x (c .at)
+saysRecord (readRecord.Got x c) = got (recordFrom x) (c .at)
 saysRecord (readRecord.Refused t) = refused t

@@ -3,9 +3,9 @@ ghost use mathlib.Core.Path.{_≡_};
 ghost use Prim.Native.Nat.{_≤_};
 ghost use lib.ListN.{length};
 ghost use Rattle.layout.specs.Written.{Wrote, says, saysWritten};
-ghost use Rattle.recording.specs.Record.{limit, isKind, contentAt, bodyAt, recordOf, recordWord, recordSaid, saysContent, saysRecord};
+ghost use Rattle.recording.specs.Record.{limit, isKind, contentAt, bodyAt, headOf, recordOf, recordWord, recordSaid, saysReadContent, saysHead, saysRecord};
 ghost use Rattle.recording.specs.Record.{begins as Record·begins};
-ghost use Rattle.recording.specs.Row.{shortOf, isCut};
+ghost use Rattle.recording.specs.Row.{isCut};
 use layout::Refusal;
 use layout::Written;
 use wire::Container;
@@ -29,6 +29,17 @@ pub struct Record {
     pub kind: u16,
     pub body: Part,
     pub content: Content,
+}
+
+// A record's front: its kind, and where its body stands.
+struct Head {
+    kind: u16,
+    body: Part,
+}
+
+enum ReadHead {
+    Got(Head, Cursor),
+    Refused(Refusal),
 }
 
 enum ReadContent {
@@ -61,7 +72,7 @@ fn begins(len: u32, kind: u16) -> bool
 
 // What the body at a place holds, in bytes that end with it.
 fn content_at(kind: u16, s: &[u8], at: usize) -> ReadContent
-    ensures { λ r. ⌜ saysContent r ≡ contentAt kind (now (s .entry)) at ⌝ }
+    ensures { λ r. ⌜ saysReadContent r ≡ contentAt kind (now (s .entry)) at ⌝ }
 {
     if kind == 3 {
         return ReadContent::Got(Content::Note, Cursor { at: s.len() });
@@ -69,7 +80,7 @@ fn content_at(kind: u16, s: &[u8], at: usize) -> ReadContent
     match wire::read_container(s, Cursor { at }) {
         ReadContainer::Got(x, next) => {
             if next.at != s.len() {
-                return ReadContent::Refused(layout::plain(3));
+                return ReadContent::Refused(layout::plain(layout::TRAIL));
             }
             ReadContent::Got(Content::Holds(x), next)
         }
@@ -78,31 +89,39 @@ fn content_at(kind: u16, s: &[u8], at: usize) -> ReadContent
 }
 
 // The body that starts at a place, of a record of that length and kind.
-fn body_at(len: u32, kind: u16, s: &[u8], start: usize) -> ReadRecord
+fn body_at(len: u32, kind: u16, s: &[u8], start: usize) -> ReadHead
     requires { ⌜ start ≤ length (now s) ⌝ }
-    ensures { λ r. ⌜ saysRecord r ≡ bodyAt len kind (now (s .entry)) start ⌝ }
+    ensures { λ r. ⌜ saysHead r ≡ bodyAt len kind (now (s .entry)) start ⌝ }
 {
     if !begins(len, kind) {
-        return ReadRecord::Refused(layout::plain(13));
+        return ReadHead::Refused(layout::plain(layout::RECORD));
     }
     let count = (len - 6) as usize;
     if count > LIMIT {
-        return ReadRecord::Refused(layout::plain(14));
+        return ReadHead::Refused(layout::plain(layout::LONG));
     }
     if s.len() - start < count {
-        return ReadRecord::Refused(layout::end_at(start));
+        return ReadHead::Refused(layout::end_at(start));
     }
-    let end = start + count;
-    match content_at(kind, &s[..end], start) {
-        ReadContent::Got(content, next) => ReadRecord::Got(
-            Record {
-                kind,
-                body: Part { start, count },
-                content,
-            },
-            next,
-        ),
-        ReadContent::Refused(f) => ReadRecord::Refused(f),
+    ReadHead::Got(
+        Head {
+            kind,
+            body: Part { start, count },
+        },
+        Cursor { at: start + count },
+    )
+}
+
+// The head of the record at the front of the bytes, with the place after its body.
+fn read_head(s: &[u8]) -> ReadHead
+    ensures { λ r. ⌜ saysHead r ≡ headOf (now (s .entry)) ⌝ }
+{
+    match (Cursor { at: 0 }).u32(s) {
+        ReadU32::Got(len, a) => match a.u16(s) {
+            ReadU16::Got(kind, body) => body_at(len, kind, s, body.at),
+            ReadU16::Refused(f) => ReadHead::Refused(f),
+        },
+        ReadU32::Refused(f) => ReadHead::Refused(f),
     }
 }
 
@@ -110,39 +129,33 @@ fn body_at(len: u32, kind: u16, s: &[u8], start: usize) -> ReadRecord
 pub fn read_record(s: &[u8]) -> ReadRecord
     ensures { λ r. ⌜ saysRecord r ≡ recordOf (now (s .entry)) ⌝ }
 {
-    match (Cursor { at: 0 }).u32(s) {
-        ReadU32::Got(len, a) => match a.u16(s) {
-            ReadU16::Got(kind, body) => body_at(len, kind, s, body.at),
-            ReadU16::Refused(f) => ReadRecord::Refused(f),
-        },
-        ReadU32::Refused(f) => ReadRecord::Refused(f),
+    match read_head(s) {
+        ReadHead::Got(head, end) => {
+            let kind = head.kind;
+            let body = head.body;
+            match content_at(kind, &s[..end.at], body.start) {
+                ReadContent::Got(content, next) => ReadRecord::Got(
+                    Record {
+                        kind,
+                        body,
+                        content,
+                    },
+                    next,
+                ),
+                ReadContent::Refused(f) => ReadRecord::Refused(f),
+            }
+        }
+        ReadHead::Refused(f) => ReadRecord::Refused(f),
     }
 }
 
-fn falls_short(len: u32, kind: u16, s: &[u8], start: usize) -> bool
-    requires { ⌜ start ≤ length (now s) ⌝ }
-    ensures { λ r. ⌜ r ≡ shortOf len kind (now (s .entry)) start ⌝ }
-{
-    if !begins(len, kind) {
-        return false;
-    }
-    let count = (len - 6) as usize;
-    if count > LIMIT {
-        return false;
-    }
-    s.len() - start < count
-}
-
-// Whether bytes that follow these may change what is found at their front.
+// Whether bytes that follow these may change what is found at their front: END is told of its head, and not of what a whole body holds.
 pub fn is_cut(s: &[u8]) -> bool
     ensures { λ r. ⌜ r ≡ isCut (now (s .entry)) ⌝ }
 {
-    match (Cursor { at: 0 }).u32(s) {
-        ReadU32::Got(len, a) => match a.u16(s) {
-            ReadU16::Got(kind, body) => falls_short(len, kind, s, body.at),
-            ReadU16::Refused(_) => true,
-        },
-        ReadU32::Refused(_) => true,
+    match read_head(s) {
+        ReadHead::Got(_, _) => false,
+        ReadHead::Refused(f) => f.no == layout::END,
     }
 }
 
@@ -152,7 +165,7 @@ fn put_record(kind: u16, body: &[u8], out: &mut [u8]) -> Written
 {
     let whole = 6 + body.len();
     if out.len() < whole {
-        return Written::Refused(layout::plain(9));
+        return Written::Refused(layout::plain(layout::ROOM));
     }
     let a = layout::store(out, 0, 4, whole as u64);
     let b = layout::store(out, a, 2, kind as u64);
@@ -164,10 +177,10 @@ pub fn write_record(kind: u16, body: &[u8], out: &mut [u8]) -> Written
     ensures { λ r. ⌜ Wrote (recordSaid kind (now (body .entry))) (now (out .entry)) (saysWritten r) (now (out .exit)) ⌝ }
 {
     if !is_kind(kind) {
-        return Written::Refused(layout::plain(13));
+        return Written::Refused(layout::plain(layout::RECORD));
     }
     if body.len() > LIMIT {
-        return Written::Refused(layout::plain(14));
+        return Written::Refused(layout::plain(layout::LONG));
     }
     match content_at(kind, body, 0) {
         ReadContent::Got(_, _) => put_record(kind, body, out),

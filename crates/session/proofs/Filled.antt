@@ -4,7 +4,7 @@ use mathlib.Core.Path.{_≡_, refl}
 use mathlib.Core.List.{List}
 use Prim.Native.Nat.{ℕ}
 use Rattle.layout.specs.Answer.{Told, got, refused, Reader}
-use Rattle.layout.proofs.Reading.{follow, stop}
+use Rattle.layout.proofs.laws.Reading.{follow, stop}
 use Rattle.wire.specs.Places.{filledAt}
 use Rattle.session.specs.Payloads.{filling}
 

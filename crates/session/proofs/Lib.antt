@@ -2,3 +2,4 @@ pub mod Sending
 pub mod Searched
 pub mod Filled
 pub mod Unique
+pub mod ReadBack

@@ -11,12 +11,13 @@ use borrow.Author.Tests.{le-leb, lt-leb, eq-eqb, ne-eqb}
 use lib.Dec.{eqb}
 use lib.ListN.{length}
 use Rattle.layout.specs.Answer.{Told, Answer, got, refused, pick, after, means, bare}
-use Rattle.layout.proofs.Accepted.{accepted}
-use Rattle.layout.proofs.Reading.{follow, stop, means-means}
+use Rattle.layout.proofs.laws.Accepted.{accepted}
+use Rattle.layout.proofs.laws.Reading.{follow, stop, means-means}
+use Rattle.layout.specs.Refusals.{TID, NOPHASE}
 use Rattle.wire.specs.Container.{containerAt}
 use Rattle.wire.specs.declared.Part.{Part}
 use Rattle.wire.specs.declared.container.Container.{Container}
-use Rattle.wire.proofs.Contained.{Boxed, container-stands}
+use Rattle.wire.proofs.laws.Contained.{Boxed, container-stands}
 use Rattle.session.specs.Search.{behind, phaseAt, phasesFrom, newer, lastData, Reply, replyTo, replyOf}
 
 module _ (number : ℕ) (s : List ℕ) where
@@ -24,7 +25,7 @@ module _ (number : ℕ) (s : List ℕ) where
   abbrev pub rest : ℕ → Part → ℕ → Answer Reply
   rest n last at = means (replyOf last) (phasesFrom n number s at)
 
-  pub nothing-left : (n : ℕ) (last : Part) (at : ℕ) → length s ≤ at → rest n last at ≡ refused (bare 8)
+  pub nothing-left : (n : ℕ) (last : Part) (at : ℕ) → length s ≤ at → rest n last at ≡ refused (bare NOPHASE)
   unfolding phasesFrom means
   nothing-left zero last at h = refl
   nothing-left (suc n) last at h = rw (le-leb (length s) at h)
@@ -54,7 +55,7 @@ module _ (number : ℕ) (s : List ℕ) where
     refused-here e = rw (opened n last at here enough) (stop _ (stop _ e))
 
     module _ {x : Container} {next : ℕ} (e : got x next ≡ containerAt s at) where
-      pub another's : (x .number ≡ number → ⊥) → refused (bare 7) ≡ rest n last at
+      pub another's : (x .number ≡ number → ⊥) → refused (bare TID) ≡ rest n last at
       unfolding phaseAt
       another's h = rw (opened n last at here enough) (stop _ (follow _ e (rw (ne-eqb (x .number) number h))))
 

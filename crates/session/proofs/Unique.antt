@@ -5,7 +5,7 @@ use mathlib.Core.List.{List}
 use Prim.Native.Nat.{ℕ}
 use Rattle.layout.specs.Answer.{Answer, got, refused, means}
 use Rattle.layout.specs.Written.{Said}
-use Rattle.layout.proofs.Determined.{Tells, retracts, reads-one}
+use Rattle.layout.proofs.laws.Determined.{Tells, retracts, reads-one}
 use Rattle.session.specs.Search.{Reply, payload, response, saysFound}
 use Rattle.session.specs.Transaction.{Turn, turn, saysMade, Makes}
 use Rattle.session.specs.declared.search.Found.{Found}

@@ -1,13 +1,13 @@
 -- The commands of the camera calls: their codes and parameters.
 -- Assumes nothing.
-use mathlib.Core.List.{List, [], _∷_, _++_}
-use Prim.Native.Nat.{ℕ, _-_}
-use lib.ListN.{length, replicate}
+use mathlib.Core.List.{List, [], _∷_}
+use Prim.Native.Nat.{ℕ}
+use lib.ListN.{length, getD}
 use Rattle.wire.specs.declared.container.Command.{Command}
 
--- at most five parameters; those that are not meant are 0
+-- the parameters that there are, and 0 for each other; a count over five is refused, so that no more than five are meant
 abbrev pub commandOf : ℕ → List ℕ → Command
-commandOf code params = record { code = code; params = params ++ replicate (5 - length params) 0; count = length params }
+commandOf code ps = record { code = code; params = getD ps 0 0 ∷ getD ps 1 0 ∷ getD ps 2 0 ∷ getD ps 3 0 ∷ getD ps 4 0 ∷ []; count = length ps }
 
 -- for a handle: all objects at the root, and all objects. No filter is 0
 abbrev pub roots : ℕ

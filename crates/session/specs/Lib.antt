@@ -2,3 +2,4 @@ pub mod Transaction
 pub mod Search
 pub mod Calls
 pub mod Payloads
+pub mod Returned

@@ -5,6 +5,7 @@ use Prim.Native.Nat.{ℕ, zero, suc}
 use lib.Dec.{leb, eqb}
 use lib.ListN.{length}
 use Rattle.layout.specs.Answer.{Answer, got, refused, Reader, pick, after, means, bare}
+use Rattle.layout.specs.Refusals.{TID, NOPHASE}
 use Rattle.wire.specs.Container.{containerAt}
 use Rattle.wire.specs.declared.Part.{Part}
 use Rattle.wire.specs.declared.container.Container.{Container}
@@ -23,15 +24,15 @@ behind x r = record { before = x ∷ r .before; response = r .response }
 
 -- a container by its own rules; then 7 for another transaction's
 unfoldable pub phaseAt : ℕ → Reader Container
-phaseAt number s at = after (containerAt s at) λ x next. pick (eqb (x .number) number) (got x next) (refused (bare 7))
+phaseAt number s at = after (containerAt s at) λ x next. pick (eqb (x .number) number) (got x next) (refused (bare TID))
 
 -- one after the other up to a Response (kind 3); 8 where no byte is left at a container's start.
 -- Each takes some bytes, so that as many steps as there are bytes suffice
 unfoldable pub phasesFrom : ℕ → ℕ → Reader Phases
-phasesFrom zero number s at = refused (bare 8)
+phasesFrom zero number s at = refused (bare NOPHASE)
 phasesFrom (suc n) number s at =
     pick (leb (length s) at)
-    (refused (bare 8))
+    (refused (bare NOPHASE))
     (after (phaseAt number s at) λ x next.
     pick (eqb (x .kind) 3) (got (record { before = []; response = x }) next) (means (behind x) (phasesFrom n number s next)))
 

@@ -1,7 +1,31 @@
-// The command of each camera call. No filter is 0.
+// Commands: from a code and its parameters, and of each camera call. No filter is 0.
 ghost use mathlib.Core.Path.{_≡_};
-ghost use Rattle.session.specs.Calls.{getObjectInfo, getObject, getObjectHandles, getNumObjects, roots, everywhere, getStorageInfo, getDeviceInfo, openSession, getStorageIDs, closeSession};
+ghost use lib.ListN.{getD};
+ghost use Rattle.session.specs.Calls.{commandOf, getObjectInfo, getObject, getObjectHandles, getNumObjects, roots, everywhere, getStorageInfo, getDeviceInfo, openSession, getStorageIDs, closeSession};
 use wire::Command;
+
+fn param(params: &[u32], i: usize) -> u32
+    ensures { λ r. ⌜ r ≡ getD (now (params .entry)) i 0 ⌝ }
+{
+    if i < params.len() { params[i] } else { 0 }
+}
+
+// A command from its code and any number of parameters.
+pub fn command_of(code: u16, params: &[u32]) -> Command
+    ensures { λ r. ⌜ r ≡ commandOf code (now (params .entry)) ⌝ }
+{
+    Command {
+        code,
+        params: [
+            param(params, 0),
+            param(params, 1),
+            param(params, 2),
+            param(params, 3),
+            param(params, 4),
+        ],
+        count: params.len(),
+    }
+}
 
 pub fn get_object_info(handle: u32) -> Command
     ensures { λ r. ⌜ r ≡ getObjectInfo handle ⌝ }

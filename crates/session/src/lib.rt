@@ -5,6 +5,7 @@ mod search;
 mod transaction;
 
 pub use call::close_session;
+pub use call::command_of;
 pub use call::get_device_info;
 pub use call::get_num_objects;
 pub use call::get_num_objects_all;

@@ -1,7 +1,9 @@
 // What the Data payload of each camera call's answer holds.
 ghost use mathlib.Core.Path.{_≡_};
-ghost use Rattle.wire.specs.Device.{deviceAt, saysDevice};
-ghost use Rattle.wire.specs.Object.{objectAt, saysObject};
+ghost use Rattle.wire.specs.Device.{saysDevice};
+ghost use Rattle.wire.specs.Layout.{device, object};
+ghost use Rattle.wire.specs.Object.{saysObject};
+ghost use Rattle.wire.specs.Places.{rowAt};
 ghost use Rattle.wire.specs.Says.{saysPart, saysU32};
 ghost use Rattle.wire.specs.Storage.{saysStorage};
 ghost use Rattle.session.specs.Payloads.{handlesPayload, countPayload, storagePayload};
@@ -59,14 +61,14 @@ pub fn storage_info(s: &[u8]) -> ReadStorage
 
 // Bytes may follow.
 pub fn device_info(s: &[u8]) -> ReadDevice
-    ensures { λ r. ⌜ saysDevice r ≡ deviceAt (now (s .entry)) 0 ⌝ }
+    ensures { λ r. ⌜ saysDevice r ≡ rowAt device (now (s .entry)) 0 ⌝ }
 {
     wire::device_info(s, Cursor { at: 0 })
 }
 
 // Bytes may follow.
 pub fn object_info(s: &[u8]) -> ReadObject
-    ensures { λ r. ⌜ saysObject r ≡ objectAt (now (s .entry)) 0 ⌝ }
+    ensures { λ r. ⌜ saysObject r ≡ rowAt object (now (s .entry)) 0 ⌝ }
 {
     wire::object_info(s, Cursor { at: 0 })
 }

@@ -43,7 +43,7 @@ pub fn find_answer(s: &[u8], number: u32) -> Found
         match wire::read_container(s, Cursor { at }) {
             ReadContainer::Got(x, next) => {
                 if x.number != number {
-                    return Found::Refused(layout::plain(7));
+                    return Found::Refused(layout::plain(layout::TID));
                 }
                 if x.kind == 3 {
                     return reply(x.code, last, next);
@@ -54,5 +54,5 @@ pub fn find_answer(s: &[u8], number: u32) -> Found
             ReadContainer::Refused(f) => return Found::Refused(f),
         }
     }
-    Found::Refused(layout::plain(8))
+    Found::Refused(layout::plain(layout::NOPHASE))
 }

@@ -20,7 +20,7 @@ use Rattle.tree.specs.Way.{Before, Walk}
 use Rattle.tree.specs.Kids.{hangs, kidsIn, kids}
 use Rattle.tree.proofs.Tables.{Marks}
 use Rattle.tree.proofs.Counts.{equal, hit, miss, times-append, times-take, pigeon, every-map, every-both, every-append, every-get, every-take}
-use Rattle.tree.proofs.Ways.{Kid, before-root, before-kids, before-beside}
+use Rattle.tree.proofs.laws.Ways.{Kid, before-root, before-kids, before-beside}
 
 -- ── lists in order ──
 

@@ -1,11 +1,8 @@
+pub mod laws
 pub mod Counts
 pub mod Alone
-pub mod Ways
 pub mod Grown
 pub mod Tables
 pub mod Scans
 pub mod Routes
 pub mod Trails
-pub mod Unique
-pub mod Tested
-pub mod Given

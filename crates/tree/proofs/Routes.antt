@@ -12,16 +12,17 @@ use lib.ListN.{length, getD, take, drop, length-append}
 use Rattle.layout.specs.Answer.{Told, got, refused, bare, pick, means}
 use Rattle.layout.specs.Bytes.{Bytes}
 use Rattle.layout.specs.Written.{says, no, Put, spelling, roomed}
-use Rattle.layout.proofs.Numbers.{Bytes-take, Bytes-drop}
-use Rattle.layout.proofs.Tidied.{measured, unmeasured}
-use Rattle.layout.proofs.Writing.{then-roomy}
+use Rattle.layout.proofs.laws.Numbers.{Bytes-take, Bytes-drop}
+use Rattle.layout.proofs.laws.Tidied.{measured, unmeasured}
+use Rattle.layout.proofs.laws.Writing.{then-roomy}
+use Rattle.layout.specs.Refusals.{PLACE}
 use Rattle.wire.specs.Utf8.{utf8At}
-use Rattle.wire.proofs.Points.{utf8-short}
+use Rattle.wire.proofs.laws.Points.{utf8-short}
 use Rattle.tree.specs.Facts.{Ruled}
 use Rattle.tree.specs.Table.{Table, tableAt, parent, startOf, endOf, nameBytes}
 use Rattle.tree.specs.Path.{nameOf, slashAfter, pathOf, pathSaid}
 use Rattle.tree.proofs.Counts.{equal}
-use Rattle.tree.proofs.Ways.{at-root, by-parent}
+use Rattle.tree.proofs.laws.Ways.{at-root, by-parent}
 
 -- ── names ──
 
@@ -113,7 +114,7 @@ module _ (t : Table) (k : ℕ) where
   unfolding pathSaid
   said-table e = rw (← e)
 
-  pub said-absent : {n : ℕ} → got tt n ≡ tableAt t → length (t .parents) ≤ k → pathSaid t k ≡ no (bare 12)
+  pub said-absent : {n : ℕ} → got tt n ≡ tableAt t → length (t .parents) ≤ k → pathSaid t k ≡ no (bare PLACE)
   unfolding pathSaid
   said-absent e h = rw (← e, le-ltb k (length (t .parents)) h)
 

@@ -13,7 +13,8 @@ use lib.ListN.{length, getD, take, drop, drop-of-length-le}
 use lib.Dec.{ltb, leb, eqb}
 use lib.Seq.{drop-cons}
 use Rattle.layout.specs.Answer.{Told, got, refused, bare, pick}
-use Rattle.layout.proofs.Reading.{follow, stop}
+use Rattle.layout.proofs.laws.Reading.{follow, stop}
+use Rattle.layout.specs.Refusals.{TABLE}
 use Rattle.tree.specs.Facts.{Ruled, Rising, Kept}
 use Rattle.tree.specs.Table.{Table, parent, kept, keptFrom, parentsOk, risesFrom, startOf, endOf, tableOk, nameAt, namesFrom, tableAt}
 use Rattle.tree.specs.Way.{within}
@@ -130,7 +131,7 @@ kept-table t e =
       spaced = rising (t .ends) (length (t .names)) (a .1);
     }
 
-pub table-no : (t : Table) → tableOk t ≡ false → refused (bare 11) ≡ tableAt t
+pub table-no : (t : Table) → tableOk t ≡ false → refused (bare TABLE) ≡ tableAt t
 unfolding tableAt
 table-no t e = rw e
 
@@ -143,6 +144,6 @@ pub accepted : (t : Table) {n : ℕ} → got tt n ≡ tableAt t → Kept (t .par
 unfolding tableAt
 accepted t {n} e = kept-table t (go (tableOk t) e)
   where
-    go : (b : Bool) → got tt n ≡ pick b (namesFrom 0 (length (t .ends)) (t .ends) (t .names)) (refused (bare 11)) → b ≡ true
+    go : (b : Bool) → got tt n ≡ pick b (namesFrom 0 (length (t .ends)) (t .ends) (t .names)) (refused (bare TABLE)) → b ≡ true
     go true e = refl
     go false e = absurd (let z : _≡_ {A = ℕ} 0 1 = cc in omega arith)

@@ -13,8 +13,9 @@ use lib.Seq.{drop-cons, take-at}
 use Rattle.layout.specs.Answer.{Told, Answer, got, refused, bare, pick}
 use Rattle.layout.specs.Bytes.{Bytes}
 use Rattle.layout.specs.Written.{says, no, Wrote, Put, leftOf}
-use Rattle.layout.proofs.Tidied.{zero-one}
-use Rattle.layout.proofs.Writing.{refusal, no-room, done}
+use Rattle.layout.proofs.laws.Tidied.{zero-one}
+use Rattle.layout.proofs.laws.Writing.{refusal, no-room, done}
+use Rattle.layout.specs.Refusals.{ROOM}
 use Rattle.tree.specs.Facts.{Ruled, Kept, Listing}
 use Rattle.tree.specs.Listed.{times, Every, none, more}
 use Rattle.tree.specs.Table.{Table, tableAt}
@@ -118,7 +119,7 @@ module _ (t : Table) (out ends : List ℕ) where
     unfolding pathsSaid
     said-paths h = rw (← e, le-leb (length l) (length ends) h)
 
-    said-no-paths : length ends < length l → pathsSaid t l (length ends) ≡ no (bare 9)
+    said-no-paths : length ends < length l → pathsSaid t l (length ends) ≡ no (bare ROOM)
     unfolding pathsSaid
     said-no-paths h = rw (← e, lt-leb (length l) (length ends) h)
 
@@ -126,12 +127,12 @@ module _ (t : Table) (out ends : List ℕ) where
     unfolding endsSaid
     said-ends h = rw (← e, le-leb (length bytes) (length out) h)
 
-    said-no-ends : length out < length bytes → endsSaid t l (length out) ≡ no (bare 9)
+    said-no-ends : length out < length bytes → endsSaid t l (length out) ≡ no (bare ROOM)
     unfolding endsSaid
     said-no-ends h = rw (← e, lt-leb (length bytes) (length out) h)
 
     -- too few ends: they are left as they are, whether the bytes have room or not
-    pub all-no-ends : {why : Told} → why ≡ bare 9 → length ends < length l → AllPaths t out ends (refused why) out ends
+    pub all-no-ends : {why : Told} → why ≡ bare ROOM → length ends < length l → AllPaths t out ends (refused why) out ends
     all-no-ends f h = record {
       order = l;
       walked = λ n e. w;
@@ -144,7 +145,7 @@ module _ (t : Table) (out ends : List ℕ) where
         either false q = refusal (said-no-ends (leb-false (length bytes) (length out) q)) .leaves
 
     module _ (h : length l ≤ length ends) where
-      pub all-no-room : {why : Told} → why ≡ bare 9 → length out < length bytes → AllPaths t out ends (refused why) out ends
+      pub all-no-room : {why : Told} → why ≡ bare ROOM → length out < length bytes → AllPaths t out ends (refused why) out ends
       all-no-room f k = record {
         order = l;
         walked = λ n e. w;

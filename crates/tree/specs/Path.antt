@@ -7,6 +7,7 @@ use lib.Dec.{leb, ltb}
 use lib.ListN.{length}
 use Rattle.layout.specs.Answer.{Answer, got, refused, bare, pick}
 use Rattle.layout.specs.Written.{Said, says, no, Wrote, spelling, leftOf}
+use Rattle.layout.specs.Refusals.{ROOM, PLACE}
 use Rattle.wire.specs.Utf8.{utf8At}
 use Rattle.tree.specs.Table.{Table, nameBytes, tableAt}
 use Rattle.tree.specs.Way.{fromRoot, within, Walk}
@@ -42,16 +43,16 @@ saidIf (refused why) s = no why
 
 -- the table's refusals, then 12 for a place that does not exist
 unfoldable pub pathSaid : Table → ℕ → Said
-pathSaid t k = saidIf (tableAt t) (pick (ltb k (length (t .parents))) (says (pathOf (t .parents) (t .ends) (t .names) k)) (no (bare 12)))
+pathSaid t k = saidIf (tableAt t) (pick (ltb k (length (t .parents))) (says (pathOf (t .parents) (t .ends) (t .names) k)) (no (bare PLACE)))
 
 -- of the paths, with room for so many ends; and of the ends, with room for so many bytes
 unfoldable pub pathsSaid : Table → List ℕ → ℕ → Said
-pathsSaid t l room = saidIf (tableAt t) (pick (leb (length l) room) (says (joined (t .parents) (t .ends) (t .names) l)) (no (bare 9)))
+pathsSaid t l room = saidIf (tableAt t) (pick (leb (length l) room) (says (joined (t .parents) (t .ends) (t .names) l)) (no (bare ROOM)))
 
 unfoldable pub endsSaid : Table → List ℕ → ℕ → Said
 endsSaid t l room =
     saidIf (tableAt t)
-    (pick (leb (length (joined (t .parents) (t .ends) (t .names) l)) room) (says (endsFrom 0 (t .parents) (t .ends) (t .names) l)) (no (bare 9)))
+    (pick (leb (length (joined (t .parents) (t .ends) (t .names) l)) room) (says (endsFrom 0 (t .parents) (t .ends) (t .names) l)) (no (bare ROOM)))
 
 -- the walk, given as places
 pub record Walked (t : Table) (old : List ℕ) (answer : Answer (Unit {0})) (new : List ℕ) : Type 0 where

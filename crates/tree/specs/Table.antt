@@ -6,6 +6,7 @@ use Prim.Native.Nat.{ℕ, zero, suc, _-_}
 use lib.ListN.{length, getD, take, drop}
 use lib.Dec.{leb, ltb, eqb}
 use Rattle.layout.specs.Answer.{Answer, got, refused, bare, pick, after}
+use Rattle.layout.specs.Refusals.{TRAIL, TABLE}
 use Rattle.wire.specs.Places.{textAt}
 
 -- handles, parent entries, and the names end to end in one buffer with an end for each
@@ -64,7 +65,7 @@ tableOk t =
 
 -- a name is wholly one string: what the string is refused with, then 3 for bytes after it
 unfoldable pub nameAt : List ℕ → Answer (Unit {0})
-nameAt s = after (textAt s 0) λ _ next. pick (eqb next (length s)) (got tt next) (refused (bare 3))
+nameAt s = after (textAt s 0) λ _ next. pick (eqb next (length s)) (got tt next) (refused (bare TRAIL))
 
 -- the m names from place k on; none is left: so many there are
 unfoldable pub namesFrom : ℕ → ℕ → List ℕ → List ℕ → Answer (Unit {0})
@@ -73,4 +74,4 @@ namesFrom k (suc m) es ns = after (nameAt (nameBytes es ns k)) λ _ _. namesFrom
 
 -- the number of objects, or the first refusal
 unfoldable pub tableAt : Table → Answer (Unit {0})
-tableAt t = pick (tableOk t) (namesFrom 0 (length (t .ends)) (t .ends) (t .names)) (refused (bare 11))
+tableAt t = pick (tableOk t) (namesFrom 0 (length (t .ends)) (t .ends) (t .names)) (refused (bare TABLE))

@@ -75,10 +75,10 @@ pub fn path(
     match table::check_table(handles, parents, ends, names) {
         Checked::Whole(_) => {
             if parents.len() <= place {
-                return Written::Refused(layout::plain(12));
+                return Written::Refused(layout::plain(layout::PLACE));
             }
             if out.len() < path_len(parents, ends, names, place) {
-                return Written::Refused(layout::plain(9));
+                return Written::Refused(layout::plain(layout::ROOM));
             }
             Written::Done(put_path(parents, ends, names, place, out, 0))
         }

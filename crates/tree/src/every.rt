@@ -68,11 +68,11 @@ pub fn paths(
             let mut places = [0u16; 1024];
             let count = queue::walk_ruled(parents, &mut places);
             if out_ends.len() < count {
-                return Written::Refused(layout::plain(9));
+                return Written::Refused(layout::plain(layout::ROOM));
             }
             let need = paths_len(parents, ends, names, &places[..count]);
             if out.len() < need {
-                return Written::Refused(layout::plain(9));
+                return Written::Refused(layout::plain(layout::ROOM));
             }
             Written::Done(put_paths(parents, ends, names, &places[..count], out, out_ends))
         }

@@ -83,7 +83,7 @@ fn give(order: &[u16], places: &mut [u16]) -> Written
     ensures { λ r. ⌜ Wrote (says (now (order .entry))) (now (places .entry)) (saysWritten r) (now (places .exit)) ⌝ }
 {
     if places.len() < order.len() {
-        return Written::Refused(layout::plain(9));
+        return Written::Refused(layout::plain(layout::ROOM));
     }
     let mut i: usize = 0;
     while i < order.len() {

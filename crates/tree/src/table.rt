@@ -85,7 +85,7 @@ fn check_name(s: &[u8]) -> Checked
             if end == s.len() {
                 Checked::Whole(end)
             } else {
-                Checked::Refused(layout::plain(3))
+                Checked::Refused(layout::plain(layout::TRAIL))
             }
         }
         ReadPart::Refused(f) => Checked::Refused(f),
@@ -115,7 +115,7 @@ pub fn check_table(handles: &[u32], parents: &[u16], ends: &[u32], names: &[u8])
     ensures { λ r. ⌜ saysChecked r ≡ tableAt (table (now (handles .entry)) (now (parents .entry)) (now (ends .entry)) (now (names .entry))) ⌝ }
 {
     if !table_ok(handles, parents, ends, names) {
-        return Checked::Refused(layout::plain(11));
+        return Checked::Refused(layout::plain(layout::TABLE));
     }
     check_names(ends, names)
 }

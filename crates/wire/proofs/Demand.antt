@@ -2,7 +2,7 @@
 -- Assumes nothing.
 use Prim.Native.Nat.{ℕ}
 use Rattle.layout.specs.Faithful.{Faithful}
-use Rattle.layout.proofs.Meets.{faithful}
+use Rattle.layout.proofs.laws.Meets.{faithful}
 use Rattle.wire.specs.Layout.{Text, Value, Row, device, object, storage, Property}
 use Rattle.wire.specs.Codecs.{text, value, row, property}
 use Rattle.wire.proofs.Formats.{text-format, value-format, row-format, property-format}

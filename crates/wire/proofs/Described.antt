@@ -2,27 +2,28 @@
 -- Assumes nothing.
 use mathlib.Core.Path.{_≡_, refl, ap, sym, _∙_}
 use mathlib.Core.List.{List, [], _∷_}
-use Prim.Native.Nat.{ℕ, zero, suc, _+_, _≤_}
+use Prim.Native.Nat.{ℕ, zero, suc, _+_, _-_, _≤_}
 use native.Mathlib.Omega.{arith}
-use borrow.Author.Tests.{ne-eqb}
+use borrow.Author.Tests.{ne-eqb, eq-eqb}
 use lib.Dec.{eqb}
-use lib.ListN.{length, replicate}
-use Rattle.layout.specs.Answer.{Told, Answer, got, refused, after, means, pick}
+use lib.ListN.{replicate}
+use Rattle.layout.specs.Answer.{Answer, got, refused, after, means, pick}
 use Rattle.layout.specs.Codec.{Codec, numbered, _and_, cons-write, repeated, through}
 use Rattle.layout.specs.Placed.{Inside, Placed, Lies, lies, nowhere}
-use Rattle.layout.proofs.Meets.{lies-after}
-use Rattle.layout.proofs.Reading.{means-means, means-same}
-use Rattle.layout.proofs.Tidied.{zero-one}
-use Rattle.wire.specs.declared.property.PropInfo.{PropInfo}
+use Rattle.layout.proofs.laws.Local.{repeated-local, alone}
+use Rattle.layout.proofs.laws.Meets.{lies-after}
+use Rattle.layout.proofs.laws.Reading.{means-means, means-same}
+use Rattle.layout.proofs.laws.Tidied.{zero-one}
+use Rattle.wire.specs.Description.{PropInfo}
 use Rattle.wire.specs.declared.property.Slot.{Slot}
-use Rattle.wire.specs.declared.property.Form as F
-use Rattle.wire.specs.declared.property.Form.the-variants as code
+use Rattle.wire.specs.Description as placed
 use Rattle.wire.specs.Layout.{Val, shape, Form, range, list, reading}
 use Rattle.wire.specs.Codecs.{value, row, three, listed, formed, form, property}
-use Rattle.wire.specs.Places.{numAt, Located, valueAt, shapeIn}
-use Rattle.wire.specs.Property.{between, slotAt, valuesAt, rangeAt, listAt, formAt, propertyAt, slotIn, formIn, propertyIn}
+use Rattle.wire.specs.Places.{numAt, Located, valueAt, shapeIn, shapeParts}
+use Rattle.wire.specs.Property.{between, slotAt, valuesAt, rangeAt, listAt, formAt, propertyAt, slotIn, valuesIn, formIn, propertyIn}
 use Rattle.wire.specs.Tidy.{rowWord, types}
-use Rattle.wire.proofs.Located.{values, num-lies, shape-parts}
+use Rattle.wire.proofs.Located.{values, num-lies}
+use Rattle.wire.proofs.Locals.{value-local}
 use Rattle.wire.proofs.RowWords.{types-one}
 
 -- ── what was measured of values, as places ──
@@ -35,23 +36,6 @@ row-repeat (suc n) t = ap (λ (X : Codec (List Val)). through (λ x. x .0 ∷ x 
 pub row-values : (t n : ℕ) (s : List ℕ) (at : ℕ) → rowWord (types (t ∷ []) n) s at ≡ means ((repeated n (value t)) .write) ((repeated n (value t)) .read s at)
 unfolding rowWord
 row-values t n s at = rw (types-one t n) (ap (λ (X : Codec (List Val)). means (X .write) (X .read s at)) (row-repeat n t))
-
-module _ (c m : ℕ) (s : List ℕ) (at : ℕ) where
-  pub values-got : (t n : ℕ) → got t n ≡ means length (rowWord (types (c ∷ []) m) s at) → got (between at n) n ≡ valuesAt c m s at
-  unfolding valuesAt means after
-  values-got t n e = go ((repeated m (value c)) .read s at) (e ∙ ap (means length) (row-values c m s at))
-    where
-      go : (x : Answer (List Val)) → got t n ≡ means length (means ((repeated m (value c)) .write) x) → got (between at n) n ≡ after x (λ _ k. got (between at k) k)
-      go (got v k) e = let f : n ≡ k = cc in rw f
-      go (refused u) e = zero-one (cc)
-
-  pub values-refused : (t : Told) → refused t ≡ means length (rowWord (types (c ∷ []) m) s at) → refused t ≡ valuesAt c m s at
-  unfolding valuesAt means after
-  values-refused t e = go ((repeated m (value c)) .read s at) (e ∙ ap (means length) (row-values c m s at))
-    where
-      go : (x : Answer (List Val)) → refused t ≡ means length (means ((repeated m (value c)) .write) x) → refused t ≡ after x (λ _ k. got (between at k) k)
-      go (got v k) e = zero-one (cc)
-      go (refused u) e = cc
 
 -- ── the meaning of places ──
 
@@ -74,12 +58,19 @@ end-link {L} F s p hd g m k x e f = rw (← e) (go x)
     go (got l q) = f l q
     go (refused t) = refl
 
+-- what is read at a place is what the bytes from there up to the place after it mean
+pub slot-in : (t : ℕ) (s : List ℕ) (at : ℕ) (v : Val) (n : ℕ) → (value t) .read s at ≡ got v n → slotIn t s (between at n) ≡ v
+slot-in t s at v n e = rw ((alone (value-local t) s at v n e) .1, eq-eqb (n - at) (n - at) refl)
+
+pub values-in : (t m : ℕ) (s : List ℕ) (at : ℕ) (vs : List Val) (n : ℕ) → (repeated m (value t)) .read s at ≡ got vs n → valuesIn t s (between at n) m ≡ vs
+values-in t m s at vs n e = rw ((alone (repeated-local m (value-local t)) s at vs n e) .1, eq-eqb (n - at) (n - at) refl)
+
 slot-means : (t : ℕ) (s : List ℕ) (p : ℕ) → means (slotIn t s) (slotAt t s p) ≡ (value t) .read s p
 unfolding valuesAt after means
 slot-means t s p = go ((value t) .read s p) refl
   where
     go : (x : Answer Val) → (value t) .read s p ≡ x → means (slotIn t s) (after (means (λ (v : Val × List Val). v .0 ∷ v .1) (after x λ a n. means (λ (b : List Val). (a, b)) (got [] n))) λ _ n. got (between p n) n) ≡ x
-    go (got v n) e = rw e
+    go (got v n) e = ap (λ u. got u n) (slot-in t s p v n e)
     go (refused u) e = refl
 
 range-means : (t : ℕ) (s : List ℕ) (p : ℕ) → means (formIn t s) (rangeAt t s p) ≡ means (λ x. range (x .0) (x .1 .0) (x .1 .1)) ((three t) .read s p)
@@ -94,11 +85,11 @@ unfolding listAt valuesAt after means
 list-means t s p = go (numAt 2 s p)
   where
     inner : (n start : ℕ) (x : Answer (List Val)) → (repeated n (value t)) .read s start ≡ x
-        → means (formIn t s) (after (after x λ _ next. got (between start next) next) λ bytes next. got (code.List bytes n) next) ≡ means list x
-    inner n start (got vs m) e = rw e
+        → means (formIn t s) (after (after x λ _ next. got (between start next) next) λ bytes next. got (placed.list bytes n) next) ≡ means list x
+    inner n start (got vs m) e = ap (λ us. got (list us) m) (values-in t n s start vs m e)
     inner n start (refused u) e = refl
 
-    go : (x : Answer ℕ) → means (formIn t s) (after x λ n start. after (after ((repeated n (value t)) .read s start) λ _ next. got (between start next) next) λ bytes next. got (code.List bytes n) next)
+    go : (x : Answer ℕ) → means (formIn t s) (after x λ n start. after (after ((repeated n (value t)) .read s start) λ _ next. got (between start next) next) λ bytes next. got (placed.list bytes n) next)
         ≡ means list (after x λ n m. (repeated n (value t)) .read s m)
     go (got n start) = inner n start ((repeated n (value t)) .read s start) refl
     go (refused u) = refl
@@ -107,13 +98,13 @@ form-means : (t : ℕ) (s : List ℕ) (p : ℕ) → means (formIn t s) (formAt t
 unfolding formAt after means
 form-means t s p = go (numAt 1 s p)
   where
-    by : (b q : ℕ) → means (formIn t s) (pick (eqb b 1) (rangeAt t s q) (pick (eqb b 2) (listAt t s q) (got code.Absent q))) ≡ (formed t b) .read s q
+    by : (b q : ℕ) → means (formIn t s) (pick (eqb b 1) (rangeAt t s q) (pick (eqb b 2) (listAt t s q) (got placed.absent q))) ≡ (formed t b) .read s q
     by zero q = refl
     by (suc zero) q = range-means t s q
     by (suc (suc zero)) q = list-means t s q
     by (suc (suc (suc n))) q = rw (ne-eqb (suc (suc (suc n))) 1 (λ e. omega arith), ne-eqb (suc (suc (suc n))) 2 (λ e. omega arith))
 
-    go : (x : Answer ℕ) → means (formIn t s) (after x λ b q. pick (eqb b 1) (rangeAt t s q) (pick (eqb b 2) (listAt t s q) (got code.Absent q))) ≡ after x (λ b q. (formed t b) .read s q)
+    go : (x : Answer ℕ) → means (formIn t s) (after x λ b q. pick (eqb b 1) (rangeAt t s q) (pick (eqb b 2) (listAt t s q) (got placed.absent q))) ≡ after x (λ b q. (formed t b) .read s q)
     go (got b q) = by b q
     go (refused u) = refl
 
@@ -148,27 +139,28 @@ value-from : (t : ℕ) (s : List ℕ) (at : ℕ) (v : Val) (n : ℕ) → (value 
 unfolding means
 value-from t s at v n e = go (valueAt t s at) ((values t) .inside s at) ((values t) .agrees s at ∙ e)
   where
-    go : (x : Answer Located) → Lies (shape-parts (shape t)) at x → means (shapeIn (shape t) s) x ≡ got v n → at ≤ n
+    go : (x : Answer Located) → Lies (shapeParts (shape t)) at x → means (shapeIn (shape t) s) x ≡ got v n → at ≤ n
     go (got l m) (lies l′ m′ h i) e = let f : m ≡ n = cc in omega arith
     go (refused u) nowhere e = zero-one (cc)
 
--- a value that is read is had by its place too
-pub located-means : (t : ℕ) (s : List ℕ) (at : ℕ) (v : Val) (n : ℕ) → (value t) .read s at ≡ got v n → (l : Located) × (valueAt t s at ≡ got l n)
+-- a value that is read, by its place: what it means, and that its parts lie within
+pub located-is : (t : ℕ) (s : List ℕ) (at : ℕ) (v : Val) (n : ℕ) → (value t) .read s at ≡ got v n
+    → (l : Located) × (valueAt t s at ≡ got l n) × (shapeIn (shape t) s l ≡ v) × Inside at n (shapeParts (shape t) l)
 unfolding means
-located-means t s at v n e = go (valueAt t s at) ((values t) .agrees s at ∙ e)
+located-is t s at v n e = go (valueAt t s at) ((values t) .inside s at) ((values t) .agrees s at ∙ e)
   where
-    go : (x : Answer Located) → means (shapeIn (shape t) s) x ≡ got v n → (l : Located) × (x ≡ got l n)
-    go (got l m) e = (l, ap (got l) (cc))
-    go (refused u) e = zero-one (cc)
+    go : (x : Answer Located) → Lies (shapeParts (shape t)) at x → means (shapeIn (shape t) s) x ≡ got v n → (l : Located) × (x ≡ got l n) × (shapeIn (shape t) s l ≡ v) × Inside at n (shapeParts (shape t) l)
+    go (got l m) (lies l′ m′ h i) e = let f : m ≡ n = cc in (l, ap (got l) f, cc, rw f at i)
+    go (refused u) nowhere e = zero-one (cc)
 
 pub located-from : (t : ℕ) (s : List ℕ) (at : ℕ) (l : Located) (n : ℕ) → got l n ≡ valueAt t s at → at ≤ n
 located-from t s at l n e = go (valueAt t s at) ((values t) .inside s at) e
   where
-    go : (x : Answer Located) → Lies (shape-parts (shape t)) at x → got l n ≡ x → at ≤ n
+    go : (x : Answer Located) → Lies (shapeParts (shape t)) at x → got l n ≡ x → at ≤ n
     go (got k m) (lies k′ m′ h i) e = let f : n ≡ m = cc in omega arith
     go (refused u) nowhere e = zero-one (cc)
 
-values-from : (t m : ℕ) (s : List ℕ) (at : ℕ) (vs : List Val) (n : ℕ) → (repeated m (value t)) .read s at ≡ got vs n → at ≤ n
+pub values-from : (t m : ℕ) (s : List ℕ) (at : ℕ) (vs : List Val) (n : ℕ) → (repeated m (value t)) .read s at ≡ got vs n → at ≤ n
 unfolding means after
 values-from t zero s at vs n e = let f : at ≡ n = cc in omega arith
 values-from t (suc m) s at vs n e = first ((value t) .read s at) (λ v q. value-from t s at v q) (λ q ws. values-from t m s q ws n) e
@@ -187,14 +179,6 @@ inside-from : (a b n : ℕ) (ps : List (ℕ × ℕ)) → b ≤ a → Inside a n 
 inside-from a b n [] h i = tt
 inside-from a b n (p ∷ ps) h i = (omega arith, i .1, i .2, inside-from a b n ps h (i .3))
 
-pub values-ahead : (c m : ℕ) (s : List ℕ) (at t n : ℕ) → got t n ≡ means length (rowWord (types (c ∷ []) m) s at) → at ≤ n
-unfolding means
-values-ahead c m s at t n e = go ((repeated m (value c)) .read s at) refl (e ∙ ap (means length) (row-values c m s at))
-  where
-    go : (x : Answer (List Val)) → (repeated m (value c)) .read s at ≡ x → got t n ≡ means length (means ((repeated m (value c)) .write) x) → at ≤ n
-    go (got vs k) f e = let g : n ≡ k = cc in omega (arith, values-from c m s at vs k f)
-    go (refused u) f e = zero-one (cc)
-
 abbrev pub extent : Slot → ℕ × ℕ
 extent p = (p .start, p .start + p .len)
 
@@ -206,10 +190,10 @@ values-lie t m s at = go ((repeated m (value t)) .read s at) (values-from t m s 
     go (got vs n) f = let h = f vs n refl in lies (between at n) n h (omega arith, omega arith, omega arith, tt)
     go (refused u) f = nowhere
 
-abbrev pub form-parts : F.Form → List (ℕ × ℕ)
-form-parts (code.Range a b c) = extent a ∷ extent b ∷ extent c ∷ []
-form-parts (code.List p n) = extent p ∷ []
-form-parts code.Absent = []
+abbrev pub form-parts : placed.Form → List (ℕ × ℕ)
+form-parts (placed.range a b c) = extent a ∷ extent b ∷ extent c ∷ []
+form-parts (placed.list p n) = extent p ∷ []
+form-parts placed.absent = []
 
 form-lies : (t : ℕ) (s : List ℕ) (at : ℕ) → Lies form-parts at (formAt t s at)
 unfolding formAt rangeAt listAt
@@ -228,11 +212,11 @@ form-lies t s at = lies-after _ (num-lies 1 s at) λ b p h _. by b p h
         lies-after _ (values-lie t n s q) λ _ next j k.
         lies _ next (omega arith) (omega arith, omega arith, omega arith, tt)
 
-    by : (b p : ℕ) → at ≤ p → Lies form-parts at (pick (eqb b 1) (rangeAt t s p) (pick (eqb b 2) (listAt t s p) (got code.Absent p)))
-    by zero p h = lies code.Absent p h tt
+    by : (b p : ℕ) → at ≤ p → Lies form-parts at (pick (eqb b 1) (rangeAt t s p) (pick (eqb b 2) (listAt t s p) (got placed.absent p)))
+    by zero p h = lies placed.absent p h tt
     by (suc zero) p h = ranges p h
     by (suc (suc zero)) p h = lists p h
-    by (suc (suc (suc n))) p h = rw (ne-eqb (suc (suc (suc n))) 1 (λ e. omega arith), ne-eqb (suc (suc (suc n))) 2 (λ e. omega arith)) (lies code.Absent p h tt)
+    by (suc (suc (suc n))) p h = rw (ne-eqb (suc (suc (suc n))) 1 (λ e. omega arith), ne-eqb (suc (suc (suc n))) 2 (λ e. omega arith)) (lies placed.absent p h tt)
 
 -- the parts of a description
 abbrev pub property-parts : PropInfo → List (ℕ × ℕ)

@@ -12,7 +12,7 @@ use Rattle.layout.specs.Answer.{pick, badText}
 use Rattle.layout.specs.Bytes.{bytes}
 use Rattle.layout.specs.Grammar.{loose, empty, Number, num, _then_, both, lead, such, as′, Repeat, Spare, Counted}
 use Rattle.layout.specs.Format.{Format}
-use Rattle.layout.proofs.Make.{nothing-format, number-format, then-format, lead-format, such-format, as-format, field-format, repeat-format, repeat-length, spare-format, cells-format, count-format}
+use Rattle.layout.proofs.laws.Make.{nothing-format, number-format, then-format, lead-format, such-format, as-format, field-format, repeat-format, repeat-length, spare-format, cells-format, count-format}
 use Rattle.wire.specs.Layout.{signed, Kind, sint, uint, wide, width, meaning, paired, Units, text-count, Text, Shape, one, many, string, undef, shape, Shaped, Value, Row, Form, list, no-form, Formed, form-byte, FormOf, reading, Fields, Property}
 use Rattle.wire.specs.Codecs.{unsigned, number-of, all-units, units, text, array, shaped, value, row, three, listed, form-write, formed, form, fields, property}
 
@@ -37,7 +37,7 @@ numbers-back k (suc m) w ns (as′ (both {u} {v} {a} {b} g h)) = cc (number-back
 
 -- ── strings ──
 
-all-units-format : (n : ℕ) → Format (Repeat n (Number 2) then λ _. Spare 2) (all-units n)
+pub all-units-format : (n : ℕ) → Format (Repeat n (Number 2) then λ _. Spare 2) (all-units n)
 all-units-format n = then-format (cells-format 2 n) λ _. spare-format 2
 
 units-format : (n : ℕ) → Format (Units n) (units n)

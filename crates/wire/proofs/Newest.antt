@@ -1,48 +1,22 @@
 -- The newer value lies within the bytes that it is a part of: the current value does, since every part of a description does.
 -- Assumes nothing.
-use mathlib.Core.Path.{_≡_, refl, ap, sym, _∙_, subst}
+use mathlib.Core.Path.{_≡_, refl, sym, subst}
 use mathlib.Core.Bool.{Bool, true, false}
 use mathlib.Core.List.{List}
 use Prim.Native.Nat.{ℕ, _+_, _≤_}
 use native.Mathlib.Omega.{arith}
 use lib.ListN.{length}
-use Rattle.layout.specs.Answer.{Answer, got, refused, pick, means}
+use Rattle.layout.specs.Answer.{Answer, got, refused, pick}
 use Rattle.layout.specs.Bytes.{Bytes}
-use Rattle.layout.specs.Format.{Sound, word}
-use Rattle.layout.specs.Placed.{Lies, lies, nowhere}
-use Rattle.layout.proofs.Tidied.{zero-one}
-use Rattle.layout.proofs.Words.{fits}
 use Rattle.wire.specs.declared.later.Chosen.{Chosen}
-use Rattle.wire.specs.declared.property.PropInfo.{PropInfo}
-use Rattle.wire.specs.Layout.{Property}
+use Rattle.wire.specs.Description.{PropInfo}
 use Rattle.wire.specs.Newer.{fills, fresh, present, newerFrom, newerOf}
-use Rattle.wire.specs.Property.{propertyAt, propertyIn}
-use Rattle.wire.proofs.Described.{properties, property-parts}
-use Rattle.wire.proofs.Formats.{property-format}
-
--- what was read ends within the bytes
-pub read-within : (s : List ℕ) → Bytes s → (x : PropInfo) (n : ℕ) → propertyAt s 0 ≡ got x n → n ≤ length s
-unfolding means
-read-within s h x n e = of (subst (Sound Property s 0) (sym (properties .agrees s 0) ∙ ap (means (propertyIn s)) e) (property-format .sound s h 0))
-  where
-    of : Sound Property s 0 (got (propertyIn s x) n) → n ≤ length s
-    of (word st g) = omega (arith, fits st, st .till)
-
-current-within : (s : List ℕ) → Bytes s → (x : PropInfo) (n : ℕ) → propertyAt s 0 ≡ got x n → x .current .start + x .current .len ≤ length s
-current-within s h x n e = go (propertyAt s 0) (properties .inside s 0) e
-  where
-    go : (y : Answer PropInfo) → Lies property-parts 0 y → y ≡ got x n → x .current .start + x .current .len ≤ length s
-    go (got z m) (lies z′ m′ k i) f =
-        let same : z ≡ x = cc in
-        let stop : m ≡ n = cc in
-        let end : z .current .start + z .current .len ≤ m = i .3 .2 in
-        let all : z .current .start + z .current .len ≤ length s = omega (arith, read-within s h x n e) in
-        rw same at all
-    go (refused t) nowhere f = zero-one (cc)
+use Rattle.wire.specs.Property.{propertyAt}
+use Rattle.wire.proofs.Held.{held}
 
 module _ (d p : List ℕ) (h : Bytes d) where
   pub within : (newerOf d p) .start + (newerOf d p) .len ≤ length (pick ((newerOf d p) .«of_payload») p d)
-  within = go (propertyAt d 0) (λ x n e. current-within d h x n e)
+  within = go (propertyAt d 0) (λ x n e. (held d h x n e) .current .within)
     where
       inside : (x : PropInfo) (b : Bool) → x .current .start + x .current .len ≤ length d
           → (pick b (fresh p) (present x)) .start + (pick b (fresh p) (present x)) .len ≤ length (pick ((pick b (fresh p) (present x)) .«of_payload») p d)

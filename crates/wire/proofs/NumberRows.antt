@@ -8,8 +8,8 @@ use native.Mathlib.Omega.{arith}
 use lib.ListN.{length, replicate}
 use Rattle.layout.specs.Answer.{Told, Answer, got, refused, after, means, spanAt}
 use Rattle.layout.specs.Bytes.{Bytes}
-use Rattle.layout.proofs.Make.{Spanned, there, short, spanned, span-there}
-use Rattle.layout.proofs.Reading.{cutAt, span-more}
+use Rattle.layout.proofs.laws.Make.{Spanned, there, short, spanned, span-there}
+use Rattle.layout.proofs.laws.Reading.{cutAt, span-more}
 use Rattle.wire.specs.Layout.{Kind, width, one, undef, shape}
 use Rattle.wire.specs.Tidy.{rowWord, valueWord, types}
 use Rattle.wire.proofs.Values.{value-one, value-undef}

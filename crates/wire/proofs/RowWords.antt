@@ -13,7 +13,7 @@ use lib.ListN.{length, take, drop, getD, replicate, length-append, length-replic
 use lib.Seq.{drop-cons, getD-take, getD-append-add, length-take-le, take-append-seam}
 use Rattle.layout.specs.Answer.{Told, Answer, got, refused, pick, after, means}
 use Rattle.layout.specs.Written.{says, saidOf, tidied, took, spelling}
-use Rattle.layout.proofs.Tidied.{measured, unmeasured, zero-one}
+use Rattle.layout.proofs.laws.Tidied.{measured, unmeasured, zero-one}
 use Rattle.wire.specs.Layout.{Val}
 use Rattle.wire.specs.Codecs.{value, row}
 use Rattle.wire.specs.Tidy.{shapeWord, valueWord, rowWord, types}

@@ -9,7 +9,7 @@ use native.Mathlib.Omega.{arith}
 use borrow.Author.Tests.{ne-eqb, lt-ltb}
 use lib.ListN.{length, take, drop, getD}
 use Rattle.layout.specs.Bytes.{number, cells}
-use Rattle.layout.proofs.Reading.{number-front}
+use Rattle.layout.proofs.laws.Reading.{number-front}
 use Rattle.wire.specs.Layout.{pairs}
 use Rattle.wire.specs.Utf8.{points, encoded, encodedAll, utf8, NoneAbove}
 use Rattle.wire.proofs.Spelled.{length-cells}

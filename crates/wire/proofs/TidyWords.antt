@@ -1,7 +1,6 @@
 -- A description's tidy word, part by part: the writer's word of its reading is made of the tidy words of its values.
 -- Assumes nothing.
 use mathlib.Core.Path.{_≡_, refl, ap, sym, _∙_}
-use mathlib.Core.Bool.{true}
 use mathlib.Core.List.{List, [], _∷_, _++_, append-assoc, append-nil}
 use Prim.Native.Nat.{ℕ, zero, suc, _+_, _-_, _≤_}
 use native.Mathlib.Omega.{arith}
@@ -11,72 +10,24 @@ use Rattle.layout.specs.Bytes.{Bytes, bytes}
 use Rattle.layout.specs.Codec.{Codec, repeated}
 use Rattle.layout.specs.Grammar.{loose, empty, _then_, lead, as′, Counted}
 use Rattle.layout.specs.Written.{says, no, saidOf, tidied, took, spelling}
-use Rattle.layout.proofs.Make.{num-size}
-use Rattle.layout.proofs.Numbers.{length-bytes}
-use Rattle.layout.proofs.Tidied.{Shrinks, nothing-shrinks, number-shrinks, then-shrinks, as-shrinks, count-shrinks, shrunk, zero-one}
+use Rattle.layout.proofs.laws.Make.{num-size}
+use Rattle.layout.proofs.laws.Numbers.{length-bytes}
+use Rattle.layout.proofs.laws.Tidied.{Shrinks, nothing-shrinks, number-shrinks, then-shrinks, as-shrinks, count-shrinks, shrunk, zero-one}
 use borrow.Author.Tests.{ne-eqb}
 use lib.Dec.{eqb}
-use Rattle.wire.specs.declared.property.PropInfo.{PropInfo}
-use Rattle.wire.specs.declared.property.Slot.{Slot}
-use Rattle.wire.specs.declared.property.Form as F
-use Rattle.wire.specs.declared.property.Form.the-variants as code
-use Rattle.wire.specs.Layout.{Val, nil, Shape, one, many, string, undef, shape, Row, Form, Formed, form-byte, FormOf, reading, Fields, Property, Value}
-use Rattle.wire.specs.Codecs.{value, shaped, row, three, listed, formed, form, fields, property}
+use Rattle.wire.specs.Description.{PropInfo}
+use Rattle.wire.specs.Description as placed
+use Rattle.wire.specs.Layout.{Val, shape, Row, Form, Formed, form-byte, FormOf, reading, Fields, Property, Value}
+use Rattle.wire.specs.Codecs.{value, row, three, listed, formed, form, fields, property}
 use Rattle.wire.specs.Places.{numAt}
-use Rattle.wire.specs.Property.{between, valuesAt, rangeAt, listAt, formAt, propertyAt, read-or, slotIn, valuesIn, formIn}
+use Rattle.wire.specs.Property.{between, slotAt, valuesAt, rangeAt, listAt, formAt, propertyAt, slotIn, valuesIn, formIn, propertyIn}
 use Rattle.wire.specs.Tidy.{rowWord, types}
 use Rattle.wire.specs.TidyProperty.{valuesWord, headerWord, rangeWord, listWord, formWord, propertyWord, Taken, WellForm, Well}
-use Rattle.wire.proofs.Described.{row-values, properties}
+use Rattle.wire.proofs.Described.{row-values, slot-in, values-in, properties}
 use Rattle.wire.proofs.Formats.{row-format, property-format}
 use Rattle.wire.proofs.Values.{shaped-shrinks}
 
--- ── a value's tidy word, from its place ──
-
-nil-write : (x : Shape) → (shaped x) .write nil ≡ []
-nil-write (one k) = refl
-nil-write (many k) = refl
-nil-write string = refl
-nil-write undef = refl
-
-slot-word : (t : ℕ) (s : List ℕ) (p : Slot) → (value t) .write (slotIn t s p) ≡ valuesWord t 1 s (p .start)
-unfolding means after
-slot-word t s p = go ((value t) .read s (p .start)) ∙ ap spelling (sym (row-values t 1 s (p .start)))
-  where
-    go : (x : Answer Val) → (value t) .write (read-or nil x)
-        ≡ spelling (means ((repeated 1 (value t)) .write) (means (λ (v : Val × List Val). v .0 ∷ v .1) (after x λ a n. means (λ (b : List Val). (a, b)) (got [] n))))
-    go (got v n) = sym (append-nil ((value t) .write v))
-    go (refused u) = nil-write (shape t)
-
-repeated-length : (m : ℕ) (F : Codec Val) (s : List ℕ) (at : ℕ) (vs : List Val) (n : ℕ) → (repeated m F) .read s at ≡ got vs n → length vs ≡ m
-unfolding means after
-repeated-length zero F s at vs n e = let f : [] ≡ vs = cc in ap length (sym f)
-repeated-length (suc m) F s at vs n e = first (F .read s at) (λ q ws k. repeated-length m F s q ws k) e
-  where
-    rest : (v : Val) (x : Answer (List Val)) → ((ws : List Val) (k : ℕ) → x ≡ got ws k → length ws ≡ m) → means (λ (y : Val × List Val). y .0 ∷ y .1) (means (λ b. (v, b)) x) ≡ got vs n → length vs ≡ suc m
-    rest v (got ws k) f e = let g : v ∷ ws ≡ vs = cc in ap length (sym g) ∙ ap suc (f ws k refl)
-    rest v (refused u) f e = zero-one (cc)
-
-    first : (x : Answer Val) → ((q : ℕ) (ws : List Val) (k : ℕ) → (repeated m F) .read s q ≡ got ws k → length ws ≡ m)
-        → means (λ (y : Val × List Val). y .0 ∷ y .1) (after x λ a q. means (λ b. (a, b)) ((repeated m F) .read s q)) ≡ got vs n → length vs ≡ suc m
-    first (got v q) f e = rest v ((repeated m F) .read s q) (f q) e
-    first (refused u) f e = zero-one (cc)
-
-list-word : (t n : ℕ) (s : List ℕ) (p : Slot) → Taken t n s (p .start) → (listed t) .write (valuesIn t s p n) ≡ bytes 2 n ++ valuesWord t n s (p .start)
-unfolding means
-list-word t n s p h = go ((repeated n (value t)) .read s (p .start)) refl (sym (ap took (row-values t n s (p .start))) ∙ h) ∙ ap (λ w. bytes 2 n ++ spelling w) (sym (row-values t n s (p .start)))
-  where
-    go : (x : Answer (List Val)) → (repeated n (value t)) .read s (p .start) ≡ x → took (means ((repeated n (value t)) .write) x) ≡ true
-        → (listed t) .write (read-or [] x) ≡ bytes 2 n ++ spelling (means ((repeated n (value t)) .write) x)
-    go (got vs m) e h = rw (repeated-length n (value t) s (p .start) vs m e)
-    go (refused u) e h = zero-one (cc)
-
--- ── the form, and the whole ──
-
-form-word : (t : ℕ) (s : List ℕ) (f : F.Form) → WellForm t s f → (form t) .write (formIn t s f) ≡ formWord t s f
-unfolding formWord rangeWord listWord
-form-word t s (code.Range a b c) h = rw (slot-word t s a, slot-word t s b, slot-word t s c) (simp append-assoc)
-form-word t s (code.List p n) h = rw (list-word t n s p h) (simp append-assoc)
-form-word t s code.Absent h = append-nil (bytes 1 0)
+-- ── the sizes ──
 
 pub header-size : (x : PropInfo) → length (headerWord x) ≡ 6
 unfolding headerWord bytes
@@ -97,9 +48,9 @@ module _ (s : List ℕ) (x : PropInfo) where
   abbrev pub in-parts : List ℕ
   in-parts = headerWord x ++ valuesWord type 1 s (x .«factory_default» .start) ++ valuesWord type 1 s (x .current .start) ++ formWord type s (x .form)
 
-  pub property-word : Well s x → propertyWord s x ≡ in-parts
-  unfolding propertyWord headerWord
-  property-word h = rw (slot-word type s (x .«factory_default»), slot-word type s (x .current), form-word type s (x .form) (h .form)) (simp append-assoc)
+  pub property-word : propertyWord s x ≡ in-parts
+  unfolding propertyWord
+  property-word = refl
 
   pub parts-size : length in-parts ≡ 6 + length (valuesWord type 1 s (x .«factory_default» .start)) + length (valuesWord type 1 s (x .current .start)) + length (formWord type s (x .form))
   parts-size = simp (length-append, header-size x)
@@ -131,11 +82,11 @@ form-well : (t : ℕ) (s : List ℕ) (at : ℕ) → Holds (WellForm t s) (formAt
 unfolding formAt rangeAt listAt
 form-well t s at = holds-after _ (anything (numAt 1 s at)) λ b p _. by b p
   where
-    by : (b p : ℕ) → Holds (WellForm t s) (pick (eqb b 1) (rangeAt t s p) (pick (eqb b 2) (listAt t s p) (got code.Absent p)))
-    by zero p = holds code.Absent p tt
-    by (suc zero) p = holds-after _ (values-taken t 1 s p) λ x a h. holds-after _ (values-taken t 1 s a) λ y b i. holds-after _ (values-taken t 1 s b) λ z n j. holds (code.Range x y z) n (h, i, j)
-    by (suc (suc zero)) p = holds-after _ (anything (numAt 2 s p)) λ n q _. holds-after _ (values-taken t n s q) λ y m h. holds (code.List y n) m h
-    by (suc (suc (suc n))) p = rw (ne-eqb (suc (suc (suc n))) 1 (λ e. omega arith), ne-eqb (suc (suc (suc n))) 2 (λ e. omega arith)) (holds code.Absent p tt)
+    by : (b p : ℕ) → Holds (WellForm t s) (pick (eqb b 1) (rangeAt t s p) (pick (eqb b 2) (listAt t s p) (got placed.absent p)))
+    by zero p = holds placed.absent p tt
+    by (suc zero) p = holds-after _ (values-taken t 1 s p) λ x a h. holds-after _ (values-taken t 1 s a) λ y b i. holds-after _ (values-taken t 1 s b) λ z n j. holds (placed.range x y z) n (h, i, j)
+    by (suc (suc zero)) p = holds-after _ (anything (numAt 2 s p)) λ n q _. holds-after _ (values-taken t n s q) λ y m h. holds (placed.list y n) m h
+    by (suc (suc (suc n))) p = rw (ne-eqb (suc (suc (suc n))) 1 (λ e. omega arith), ne-eqb (suc (suc (suc n))) 2 (λ e. omega arith)) (holds placed.absent p tt)
 
 property-well : (s : List ℕ) (at : ℕ) → Holds (Well s) (propertyAt s at)
 unfolding propertyAt
@@ -156,10 +107,75 @@ well-read s at x n e = go (propertyAt s at) (property-well s at) e
     go (got z m) (holds l k h) e = let f : x ≡ z = cc in rw f h
     go (refused u) not-read e = zero-one (cc)
 
+-- ── and its tidy word is made of the tidy words of its values ──
+
+slot-word : (t : ℕ) (s : List ℕ) (at : ℕ) → Holds (λ p. (value t) .write (slotIn t s p) ≡ valuesWord t 1 s (p .start)) (slotAt t s at)
+unfolding valuesAt means after
+slot-word t s at = go ((value t) .read s at) refl (ap spelling (row-values t 1 s at))
+  where
+    go : (x : Answer Val) → (value t) .read s at ≡ x
+        → valuesWord t 1 s at ≡ spelling (means ((repeated 1 (value t)) .write) (means (λ (v : Val × List Val). v .0 ∷ v .1) (after x λ a n. means (λ (b : List Val). (a, b)) (got [] n))))
+        → Holds (λ p. (value t) .write (slotIn t s p) ≡ valuesWord t 1 s (p .start)) (after (means (λ (v : Val × List Val). v .0 ∷ v .1) (after x λ a n. means (λ (b : List Val). (a, b)) (got [] n))) λ _ n. got (between at n) n)
+    go (got v n) e w = holds (between at n) n (ap ((value t) .write) (slot-in t s at v n e) ∙ sym (w ∙ append-nil ((value t) .write v)))
+    go (refused u) e w = not-read
+
+repeated-length : (m : ℕ) (F : Codec Val) (s : List ℕ) (at : ℕ) (vs : List Val) (n : ℕ) → (repeated m F) .read s at ≡ got vs n → length vs ≡ m
+unfolding means after
+repeated-length zero F s at vs n e = let f : [] ≡ vs = cc in ap length (sym f)
+repeated-length (suc m) F s at vs n e = first (F .read s at) (λ q ws k. repeated-length m F s q ws k) e
+  where
+    rest : (v : Val) (x : Answer (List Val)) → ((ws : List Val) (k : ℕ) → x ≡ got ws k → length ws ≡ m) → means (λ (y : Val × List Val). y .0 ∷ y .1) (means (λ b. (v, b)) x) ≡ got vs n → length vs ≡ suc m
+    rest v (got ws k) f e = let g : v ∷ ws ≡ vs = cc in ap length (sym g) ∙ ap suc (f ws k refl)
+    rest v (refused u) f e = zero-one (cc)
+
+    first : (x : Answer Val) → ((q : ℕ) (ws : List Val) (k : ℕ) → (repeated m F) .read s q ≡ got ws k → length ws ≡ m)
+        → means (λ (y : Val × List Val). y .0 ∷ y .1) (after x λ a q. means (λ b. (a, b)) ((repeated m F) .read s q)) ≡ got vs n → length vs ≡ suc m
+    first (got v q) f e = rest v ((repeated m F) .read s q) (f q) e
+    first (refused u) f e = zero-one (cc)
+
+list-word : (t n : ℕ) (s : List ℕ) (at : ℕ) → Holds (λ p. (listed t) .write (valuesIn t s p n) ≡ bytes 2 n ++ valuesWord t n s (p .start)) (valuesAt t n s at)
+unfolding valuesAt means after
+list-word t n s at = go ((repeated n (value t)) .read s at) refl (ap spelling (row-values t n s at))
+  where
+    go : (x : Answer (List Val)) → (repeated n (value t)) .read s at ≡ x → valuesWord t n s at ≡ spelling (means ((repeated n (value t)) .write) x)
+        → Holds (λ p. (listed t) .write (valuesIn t s p n) ≡ bytes 2 n ++ valuesWord t n s (p .start)) (after x λ _ m. got (between at m) m)
+    go (got vs m) e w = holds (between at m) m (ap ((listed t) .write) (values-in t n s at vs m e) ∙ rw (repeated-length n (value t) s at vs m e, w))
+    go (refused u) e w = not-read
+
+form-word : (t : ℕ) (s : List ℕ) (at : ℕ) → Holds (λ f. (form t) .write (formIn t s f) ≡ formWord t s f) (formAt t s at)
+unfolding formAt rangeAt listAt formWord rangeWord listWord
+form-word t s at = holds-after _ (anything (numAt 1 s at)) λ b p _. by b p
+  where
+    by : (b p : ℕ) → Holds (λ f. (form t) .write (formIn t s f) ≡ formWord t s f) (pick (eqb b 1) (rangeAt t s p) (pick (eqb b 2) (listAt t s p) (got placed.absent p)))
+    by zero p = holds placed.absent p (append-nil (bytes 1 0))
+    by (suc zero) p = holds-after _ (slot-word t s p) λ x a h. holds-after _ (slot-word t s a) λ y b i. holds-after _ (slot-word t s b) λ z n j. holds (placed.range x y z) n (rw (h, i, j) (simp append-assoc))
+    by (suc (suc zero)) p = holds-after _ (anything (numAt 2 s p)) λ n q _. holds-after _ (list-word t n s q) λ y m h. holds (placed.list y n) m (rw h (simp append-assoc))
+    by (suc (suc (suc n))) p = rw (ne-eqb (suc (suc (suc n))) 1 (λ e. omega arith), ne-eqb (suc (suc (suc n))) 2 (λ e. omega arith)) (holds placed.absent p (append-nil (bytes 1 0)))
+
+words : (s : List ℕ) (at : ℕ) → Holds (λ x. property .write (propertyIn s x) ≡ propertyWord s x) (propertyAt s at)
+unfolding propertyAt propertyWord headerWord
+words s at =
+    holds-after _ (anything (numAt 2 s at)) λ _ a _.
+    holds-after _ (anything (numAt 2 s a)) λ t b _.
+    holds-after _ (anything (numAt 1 s b)) λ _ c _.
+    holds-after _ (anything (numAt 1 s c)) λ _ d _.
+    holds-after _ (slot-word t s d) λ _ e h.
+    holds-after _ (slot-word t s e) λ _ f i.
+    holds-after _ (form-word t s f) λ _ n j.
+    holds _ n (rw (h, i, j) (simp append-assoc))
+
+word-read : (s : List ℕ) (x : PropInfo) (n : ℕ) → got x n ≡ propertyAt s 0 → means (property .write) (property .read s 0) ≡ got (propertyWord s x) n
+unfolding means
+word-read s x n e = rw (← properties .agrees s 0, ← e) (ap (λ w. got w n) (go (propertyAt s 0) (words s 0) e))
+  where
+    go : (y : Answer PropInfo) → Holds (λ x. property .write (propertyIn s x) ≡ propertyWord s x) y → got x n ≡ y → property .write (propertyIn s x) ≡ propertyWord s x
+    go (got z m) (holds l k h) e = let f : x ≡ z = cc in rw f h
+    go (refused u) not-read e = zero-one (cc)
+
 -- what the tidy writer has to say of it
 pub said-property : (s : List ℕ) (x : PropInfo) (n : ℕ) → got x n ≡ propertyAt s 0 → tidied property s ≡ says (propertyWord s x)
-unfolding propertyWord means saidOf
-said-property s x n e = rw (← properties .agrees s 0, ← e)
+unfolding saidOf
+said-property s x n e = ap saidOf (word-read s x n e)
 
 pub said-no-property : (s : List ℕ) (t : Told) → refused t ≡ propertyAt s 0 → tidied property s ≡ no t
 unfolding means saidOf
@@ -210,7 +226,7 @@ property-shrinks : Shrinks Property property
 property-shrinks = as-shrinks reading _ fields-shrinks λ a. refl
 
 pub property-bound : (s : List ℕ) → Bytes s → (x : PropInfo) (n : ℕ) → got x n ≡ propertyAt s 0 → length (propertyWord s x) ≤ length s
-unfolding propertyWord means
+unfolding means
 property-bound s h x n e =
-    let k = shrunk property-format property-shrinks s h 0 (length (propertyWord s x)) n (rw (← properties .agrees s 0, ← e)) in
+    let k = shrunk property-format property-shrinks s h 0 (length (propertyWord s x)) n (sym (ap (means length) (word-read s x n e))) in
     omega arith

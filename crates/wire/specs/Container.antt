@@ -8,6 +8,7 @@ use lib.ListN.{length, getD}
 use Rattle.layout.specs.Answer.{Answer, got, refused, Reader, pick, after, bare}
 use Rattle.layout.specs.Bytes.{bytes}
 use Rattle.layout.specs.Written.{Said, says, no}
+use Rattle.layout.specs.Refusals.{KIND, LENGTH, SIZE, COUNT}
 use Rattle.wire.specs.Places.{numAt}
 use Rattle.wire.specs.declared.container.Header.{Header}
 use Rattle.wire.specs.declared.container.Container.{Container}
@@ -28,14 +29,14 @@ unfoldable pub headerRest : ℕ → ℕ → Reader Header
 headerRest len kind s at =
     after (numAt 2 s at) λ code a.
     after (numAt 4 s a) λ number next.
-    pick (leb 12 len) (got (record { kind = kind; code = code; number = number; «payload_len» = len - 12 }) next) (refused (bare 5))
+    pick (leb 12 len) (got (record { kind = kind; code = code; number = number; «payload_len» = len - 12 }) next) (refused (bare LENGTH))
 
 -- the kind is tested once its six bytes are there (4), before the rest is read
 unfoldable pub headerAt : Reader Header
 headerAt s at =
     after (numAt 4 s at) λ len a.
     after (numAt 2 s a) λ kind b.
-    pick (isKind kind) (headerRest len kind s b) (refused (bare 4))
+    pick (isKind kind) (headerRest len kind s b) (refused (bare KIND))
 
 -- the header, and where the payload stands; bytes that stop before the announced length are 6
 unfoldable pub containerAt : Reader Container
@@ -43,7 +44,7 @@ containerAt s at =
     after (headerAt s at) λ h start.
     pick (leb (h .«payload_len») (length s - start))
     (got (record { kind = h .kind; code = h .code; number = h .number; payload = record { start = start; count = h .«payload_len» } }) (start + h .«payload_len»))
-    (refused (bare 6))
+    (refused (bare SIZE))
 
 -- ── writing ──
 
@@ -53,7 +54,7 @@ containerWord kind code number payload = bytes 4 (12 + length payload) ++ bytes 
 -- a kind that is none is 4; a payload whose container would pass 4,294,967,295 bytes is 10
 unfoldable pub containerSaid : ℕ → ℕ → ℕ → List ℕ → Said
 containerSaid kind code number payload =
-    pick (isKind kind) (pick (leb (length payload) 4294967283) (says (containerWord kind code number payload)) (no (bare 10))) (no (bare 4))
+    pick (isKind kind) (pick (leb (length payload) 4294967283) (says (containerWord kind code number payload)) (no (bare COUNT))) (no (bare KIND))
 
 -- the first n of the parameters, four bytes each
 unfoldable pub paramBytes : ℕ → List ℕ → List ℕ
@@ -62,7 +63,7 @@ paramBytes (suc n) ps = paramBytes n ps ++ bytes 4 (getD ps n 0)
 
 -- a Command container of the first `count` of the five; a count over five is 10
 unfoldable pub commandSaid : Command → ℕ → Said
-commandSaid c number = pick (leb (c .count) 5) (containerSaid 1 (c .code) number (paramBytes (c .count) (c .params))) (no (bare 10))
+commandSaid c number = pick (leb (c .count) 5) (containerSaid 1 (c .code) number (paramBytes (c .count) (c .params))) (no (bare COUNT))
 
 -- ── this paper's values for each case ──
 

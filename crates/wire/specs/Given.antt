@@ -8,6 +8,7 @@ use Rattle.layout.specs.Answer.{pick, badText, bare}
 use Rattle.layout.specs.Bytes.{bytes, cells}
 use Rattle.layout.specs.Codec.{celled}
 use Rattle.layout.specs.Written.{Said, says, no}
+use Rattle.layout.specs.Refusals.{COUNT, PLACE}
 use Rattle.wire.specs.Layout.{sint, uint, wide, width, int, nat, pair, paired, Shape, one, many, string, undef, shape, Val, num, nil}
 use Rattle.wire.specs.Codecs.{text, array, shaped}
 use Rattle.wire.specs.declared.given.Bits.{Bits}
@@ -52,7 +53,7 @@ integerBits b = bytes (b .front) (b .low) ++ bytes (b .back) (b .high)
 -- ── a string from its units: 2, then 10 over 254 units ──
 
 unfoldable pub textSaid : List ℕ → Said
-textSaid us = pick (paired us) (pick (leb (length us) 254) (says (text .write us)) (no (bare 10))) (no (badText 0))
+textSaid us = pick (paired us) (pick (leb (length us) 254) (says (text .write us)) (no (bare COUNT))) (no (badText 0))
 
 -- units one after the other
 unfoldable pub unitsWord : List ℕ → List ℕ
@@ -64,15 +65,15 @@ unitsWord us = (celled 2 (length us)) .write us
 unfoldable pub itemsSaid : ℕ → List ℕ → Said
 itemsSaid w bs =
     pick (eqb (length bs % w) 0)
-    (pick (leb (length bs / w) 0xFFFFFFFF) (says ((array w) .write (cells w (length bs / w) bs))) (no (bare 10)))
-    (no (bare 10))
+    (pick (leb (length bs / w) 0xFFFFFFFF) (says ((array w) .write (cells w (length bs / w) bs))) (no (bare COUNT)))
+    (no (bare COUNT))
 
 -- 12 where the code is no array's
 unfoldable pub shapeSaid : Shape → List ℕ → Said
 shapeSaid (many k) bs = itemsSaid (width k) bs
-shapeSaid (one k) bs = no (bare 12)
-shapeSaid string bs = no (bare 12)
-shapeSaid undef bs = no (bare 12)
+shapeSaid (one k) bs = no (bare PLACE)
+shapeSaid string bs = no (bare PLACE)
+shapeSaid undef bs = no (bare PLACE)
 
 abbrev pub arraySaid : ℕ → List ℕ → Said
 arraySaid t = shapeSaid (shape t)

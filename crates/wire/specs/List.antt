@@ -1,17 +1,18 @@
 -- A description's list: its n-th value, where it stands, and what a step finds.
 -- Assumes nothing.
+use mathlib.Core.Path.{_≡_}
 use mathlib.Core.List.{List}
 use Prim.Native.Nat.{ℕ, _-_}
 use lib.Dec.{eqb, ltb}
-use denote.Ref.{RefT}
+use denote.Ref.{RefT, now}
 use Rattle.layout.specs.Answer.{Answer, got, refused, Reader, pick, after, bare}
+use Rattle.layout.specs.Refusals.{PLACE}
 use Rattle.wire.specs.Places.{Located, valueAt}
 use Rattle.wire.specs.Says.{located}
 use Rattle.wire.specs.Property.{between, valuesAt, propertyAt}
-use Rattle.wire.specs.declared.property.PropInfo.{PropInfo}
 use Rattle.wire.specs.declared.property.Slot.{Slot}
-use Rattle.wire.specs.declared.property.Form.{Form}
-use Rattle.wire.specs.declared.property.Form.the-variants as form
+use Rattle.wire.specs.Description.{Form, PropInfo}
+use Rattle.wire.specs.Description as form
 use Rattle.wire.specs.declared.list.ReadNth.{ReadNth}
 use Rattle.wire.specs.declared.list.ReadNth.the-variants as readNth
 use Rattle.wire.specs.declared.list.Place.{Place}
@@ -29,9 +30,9 @@ unfoldable pub nthValue : ℕ → ℕ → Reader (Located × Slot)
 nthValue t n s start = after (valuesAt t n s start) λ _ at. valueSlot t s at
 
 unfoldable pub nthIn : ℕ → ℕ → Form → List ℕ → Answer (Located × Slot)
-nthIn n t (form.List p count) s = pick (ltb n count) (nthValue t n s (p .start)) (refused (bare 12))
-nthIn n t (form.Range a b c) s = refused (bare 12)
-nthIn n t form.Absent s = refused (bare 12)
+nthIn n t (form.list p count) s = pick (ltb n count) (nthValue t n s (p .start)) (refused (bare PLACE))
+nthIn n t (form.range a b c) s = refused (bare PLACE)
+nthIn n t form.absent s = refused (bare PLACE)
 
 unfoldable pub nthAt : ℕ → List ℕ → Answer (Located × Slot)
 nthAt n s = after (propertyAt s 0) λ x _. nthIn n (x .«data_type») (x .form) s
@@ -44,9 +45,9 @@ saysNth (readNth.Refused t) = refused t
 
 -- no list, or a refused description, leaves none
 abbrev pub placeIn : ℕ → Form → Place
-placeIn t (form.List p count) = record { ty = t; at = p .start; left = count; refusal = 0 }
-placeIn t (form.Range a b c) = record { ty = t; at = 0; left = 0; refusal = 0 }
-placeIn t form.Absent = record { ty = t; at = 0; left = 0; refusal = 0 }
+placeIn t (form.list p count) = record { ty = t; at = p .start; left = count; refusal = 0 }
+placeIn t (form.range a b c) = record { ty = t; at = 0; left = 0; refusal = 0 }
+placeIn t form.absent = record { ty = t; at = 0; left = 0; refusal = 0 }
 
 abbrev pub placeFrom : Answer PropInfo → Place
 placeFrom (got x n) = placeIn (x .«data_type») (x .form)
@@ -78,3 +79,10 @@ stepAt s t at left refusal = pick (eqb refusal 0) (pick (eqb left 0) end (steppe
 abbrev pub saysStep : Step → Stepped
 saysStep (step.Next v at left) = next (located v) at left
 saysStep step.End = end
+
+-- what a call of `next` answers of the list, and what a call of `moved` makes of it
+abbrev pub Nexts : Values → Step → Type 0
+Nexts l r = saysStep r ≡ stepAt (now (l .src)) (l .ty) (l .at) (l .left) (l .refusal)
+
+abbrev pub Moves : Values → ℕ → ℕ → Values → Type 0
+Moves l at left m = (m .src ≡ l .src) × (m .ty ≡ l .ty) × (m .at ≡ at) × (m .left ≡ left) × (m .refusal ≡ l .refusal)

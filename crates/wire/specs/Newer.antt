@@ -9,7 +9,7 @@ use Rattle.layout.specs.Answer.{Answer, got, refused, pick}
 use Rattle.wire.specs.Places.{Located, valueAt}
 use Rattle.wire.specs.Property.{propertyAt}
 use Rattle.wire.specs.declared.later.Chosen.{Chosen}
-use Rattle.wire.specs.declared.property.PropInfo.{PropInfo}
+use Rattle.wire.specs.Description.{PropInfo}
 
 -- exactly one value of the type, and no byte more
 abbrev pub endsAt : ℕ → Answer Located → Bool

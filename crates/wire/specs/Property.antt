@@ -1,23 +1,30 @@
 -- A property's description as the code answers it, and what it means.
 -- Assumes nothing.
-use mathlib.Core.List.{List, []}
+use mathlib.Core.List.{List, [], _∷_}
 use Prim.Native.Nat.{ℕ, _-_}
 use lib.Dec.{eqb}
-use Rattle.layout.specs.Answer.{Answer, got, refused, Reader, pick, after}
+use lib.ListN.{take, drop}
+use Rattle.layout.specs.Answer.{Answer, got, refused, Reader, pick, after, means}
 use Rattle.layout.specs.Codec.{repeated}
-use Rattle.wire.specs.Layout.{Val, nil, Form, range, list, no-form, Reading}
+use Rattle.wire.specs.Layout.{Shape, one, many, string, undef, shape, Val, str, nil, Form, range, list, no-form, Reading}
 use Rattle.wire.specs.Codecs.{value}
 use Rattle.wire.specs.Places.{numAt}
 use Rattle.wire.specs.declared.property.Slot.{Slot}
-use Rattle.wire.specs.declared.property.Form as F
-use Rattle.wire.specs.declared.property.Form.the-variants as form
-use Rattle.wire.specs.declared.property.PropInfo.{PropInfo}
+use Rattle.wire.specs.Description as form
+use Rattle.wire.specs.Description.{PropInfo}
+use Rattle.wire.specs.declared.property.Form as declared
+use Rattle.wire.specs.declared.property.Form.the-variants as variants
+use Rattle.wire.specs.declared.property.PropInfo as declared-info
 use Rattle.wire.specs.declared.property.ReadProperty.{ReadProperty}
 use Rattle.wire.specs.declared.property.ReadProperty.the-variants as readProperty
 
 -- the bytes from a place up to another
 abbrev pub between : ℕ → ℕ → Slot
 between at n = record { start = at; len = n - at }
+
+-- n values of a type, passed by
+unfoldable pub passedAt : ℕ → ℕ → Reader (Unit {0})
+passedAt t n s at = means (λ _. tt) ((repeated n (value t)) .read s at)
 
 -- n values of a type, as the bytes that they take; and one
 unfoldable pub valuesAt : ℕ → ℕ → Reader Slot
@@ -26,24 +33,24 @@ valuesAt t n s at = after ((repeated n (value t)) .read s at) λ _ next. got (be
 abbrev pub slotAt : ℕ → Reader Slot
 slotAt t = valuesAt t 1
 
-unfoldable pub rangeAt : ℕ → Reader F.Form
+unfoldable pub rangeAt : ℕ → Reader form.Form
 rangeAt t s at =
     after (slotAt t s at) λ low a.
     after (slotAt t s a) λ high b.
     after (slotAt t s b) λ step next.
-    got (form.Range low high step) next
+    got (form.range low high step) next
 
-unfoldable pub listAt : ℕ → Reader F.Form
+unfoldable pub listAt : ℕ → Reader form.Form
 listAt t s at =
     after (numAt 2 s at) λ n start.
     after (valuesAt t n s start) λ bytes next.
-    got (form.List bytes n) next
+    got (form.list bytes n) next
 
 -- by the form byte
-unfoldable pub formAt : ℕ → Reader F.Form
+unfoldable pub formAt : ℕ → Reader form.Form
 formAt t s at =
     after (numAt 1 s at) λ b p.
-    pick (eqb b 1) (rangeAt t s p) (pick (eqb b 2) (listAt t s p) (got form.Absent p))
+    pick (eqb b 1) (rangeAt t s p) (pick (eqb b 2) (listAt t s p) (got form.absent p))
 
 -- field by field, in the layout's order
 unfoldable pub propertyAt : Reader PropInfo
@@ -67,28 +74,55 @@ propertyAt s at =
     })
     next
 
+abbrev pub saysForm : declared.Form → form.Form
+saysForm variants.Absent = form.absent
+saysForm (variants.Range a b c) = form.range a b c
+saysForm (variants.List p n) = form.list p n
+
+abbrev pub infoFrom : declared-info.PropInfo → PropInfo
+infoFrom x = record {
+  «property_code» = x .«property_code»;
+  «data_type» = x .«data_type»;
+  «get_set» = x .«get_set»;
+  «is_enable» = x .«is_enable»;
+  «factory_default» = x .«factory_default»;
+  current = x .current;
+  form = saysForm (x .form);
+}
+
 abbrev pub saysProperty : ReadProperty → Answer PropInfo
-saysProperty (readProperty.Got v c) = got v (c .at)
+saysProperty (readProperty.Got v c) = got (infoFrom v) (c .at)
 saysProperty (readProperty.Refused t) = refused t
 
 -- ── what places mean ──
 
--- what was read, if it was
-abbrev pub read-or : {A : Type 0} → A → Answer A → A
-read-or a (got b n) = b
-read-or a (refused t) = a
+-- the bytes of a part
+abbrev pub bytesOf : List ℕ → Slot → List ℕ
+bytesOf s p = take (p .len) (drop (p .start) s)
 
--- the value of a type at a place, and so many of them
+-- what was read, if all n bytes were; else `other`
+abbrev pub filling : {A : Type 0} → ℕ → A → Answer A → A
+filling n other (got a m) = pick (eqb m n) a other
+filling n other (refused t) = other
+
+-- what is no value of that shape, so that a part which is not exactly one means none
+abbrev pub none-of : Shape → Val
+none-of (one k) = nil
+none-of (many k) = nil
+none-of string = nil
+none-of undef = str []
+
+-- the value of a type that the bytes of a part are, all of them; and so many values
 abbrev pub slotIn : ℕ → List ℕ → Slot → Val
-slotIn t s p = read-or nil ((value t) .read s (p .start))
+slotIn t s p = filling (p .len) (none-of (shape t)) ((value t) .read (bytesOf s p) 0)
 
 abbrev pub valuesIn : ℕ → List ℕ → Slot → ℕ → List Val
-valuesIn t s p n = read-or [] ((repeated n (value t)) .read s (p .start))
+valuesIn t s p n = filling (p .len) (none-of (shape t) ∷ []) ((repeated n (value t)) .read (bytesOf s p) 0)
 
-abbrev pub formIn : ℕ → List ℕ → F.Form → Form
-formIn t s (form.Range a b c) = range (slotIn t s a) (slotIn t s b) (slotIn t s c)
-formIn t s (form.List p n) = list (valuesIn t s p n)
-formIn t s form.Absent = no-form
+abbrev pub formIn : ℕ → List ℕ → form.Form → Form
+formIn t s (form.range a b c) = range (slotIn t s a) (slotIn t s b) (slotIn t s c)
+formIn t s (form.list p n) = list (valuesIn t s p n)
+formIn t s form.absent = no-form
 
 -- the reading that it has in the bytes
 abbrev pub propertyIn : List ℕ → PropInfo → Reading

@@ -6,12 +6,9 @@ use mathlib.Core.List.{List, [], _∷_, _++_}
 use Prim.Native.Nat.{ℕ}
 use Rattle.layout.specs.Bytes.{bytes}
 use Rattle.layout.specs.Written.{took, spelling}
-use Rattle.wire.specs.Codecs.{property}
-use Rattle.wire.specs.Property.{propertyIn}
 use Rattle.wire.specs.Tidy.{rowWord, types}
-use Rattle.wire.specs.declared.property.PropInfo.{PropInfo}
-use Rattle.wire.specs.declared.property.Form.{Form}
-use Rattle.wire.specs.declared.property.Form.the-variants as form
+use Rattle.wire.specs.Description.{Form, PropInfo}
+use Rattle.wire.specs.Description as form
 
 -- the tidy words of n values of a type at a place
 abbrev pub valuesWord : ℕ → ℕ → List ℕ → ℕ → List ℕ
@@ -27,13 +24,14 @@ unfoldable pub listWord : ℕ → List ℕ → ℕ → ℕ → List ℕ
 listWord t s at n = bytes 1 2 ++ bytes 2 n ++ valuesWord t n s at
 
 unfoldable pub formWord : ℕ → List ℕ → Form → List ℕ
-formWord t s (form.Range a b c) = rangeWord t s (a .start) (b .start) (c .start)
-formWord t s (form.List p n) = listWord t s (p .start) n
-formWord t s form.Absent = bytes 1 0
+formWord t s (form.range a b c) = rangeWord t s (a .start) (b .start) (c .start)
+formWord t s (form.list p n) = listWord t s (p .start) n
+formWord t s form.absent = bytes 1 0
 
--- the writer's own word of the reading: what the parts come to
 unfoldable pub propertyWord : List ℕ → PropInfo → List ℕ
-propertyWord s x = property .write (propertyIn s x)
+propertyWord s x =
+    let t = x .«data_type» in
+    headerWord x ++ valuesWord t 1 s (x .«factory_default» .start) ++ valuesWord t 1 s (x .current .start) ++ formWord t s (x .form)
 
 -- ── the values were read ──
 
@@ -44,9 +42,9 @@ abbrev pub Well3 : ℕ → List ℕ → ℕ → ℕ → ℕ → Type 0
 Well3 t s a b c = Taken t 1 s a × Taken t 1 s b × Taken t 1 s c
 
 abbrev pub WellForm : ℕ → List ℕ → Form → Type 0
-WellForm t s (form.Range a b c) = Well3 t s (a .start) (b .start) (c .start)
-WellForm t s (form.List p n) = Taken t n s (p .start)
-WellForm t s form.Absent = Unit {0}
+WellForm t s (form.range a b c) = Well3 t s (a .start) (b .start) (c .start)
+WellForm t s (form.list p n) = Taken t n s (p .start)
+WellForm t s form.absent = Unit {0}
 
 pub record Well (s : List ℕ) (x : PropInfo) : Type 0 where
   pub default : Taken (x .«data_type») 1 s (x .«factory_default» .start)

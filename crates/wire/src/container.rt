@@ -60,7 +60,7 @@ fn header_rest(s: &[u8], c: Cursor, len: u32, kind: u16) -> ReadHeader
     match field::two_at(s, at, 2, 4) {
         Span::Till(next) => {
             if len < 12 {
-                return ReadHeader::Refused(layout::plain(5));
+                return ReadHeader::Refused(layout::plain(layout::LENGTH));
             }
             ReadHeader::Got(
                 Header {
@@ -84,7 +84,7 @@ pub fn read_header(s: &[u8], c: Cursor) -> ReadHeader
         Span::Till(rest) => {
             let kind = field::word(s, at + 4, 2) as u16;
             if !is_kind(kind) {
-                return ReadHeader::Refused(layout::plain(4));
+                return ReadHeader::Refused(layout::plain(layout::KIND));
             }
             header_rest(s, rest, field::word(s, at, 4) as u32, kind)
         }
@@ -109,7 +109,7 @@ pub fn read_container(s: &[u8], c: Cursor) -> ReadContainer
                     },
                     next,
                 ),
-                Span::Refused(_) => ReadContainer::Refused(layout::plain(6)),
+                Span::Refused(_) => ReadContainer::Refused(layout::plain(layout::SIZE)),
             }
         }
         ReadHeader::Refused(f) => ReadContainer::Refused(f),
@@ -120,14 +120,14 @@ pub fn write_container(kind: u16, code: u16, number: u32, payload: &[u8], out: &
     ensures { λ r. ⌜ Wrote (containerSaid kind code number (now (payload .entry))) (now (out .entry)) (saysWritten r) (now (out .exit)) ⌝ }
 {
     if !is_kind(kind) {
-        return Written::Refused(layout::plain(4));
+        return Written::Refused(layout::plain(layout::KIND));
     }
     if payload.len() > 4294967283 {
-        return Written::Refused(layout::plain(10));
+        return Written::Refused(layout::plain(layout::COUNT));
     }
     let whole = 12 + payload.len();
     if out.len() < whole {
-        return Written::Refused(layout::plain(9));
+        return Written::Refused(layout::plain(layout::ROOM));
     }
     let a = layout::store(out, 0, 4, whole as u64);
     let b = layout::store(out, a, 2, kind as u64);
@@ -161,7 +161,7 @@ pub fn write_command(c: Command, number: u32, out: &mut [u8]) -> Written
 {
     let count = c.count;
     if count > 5 {
-        return Written::Refused(layout::plain(10));
+        return Written::Refused(layout::plain(layout::COUNT));
     }
     let params = c.params;
     let mut payload = [0u8; 20];

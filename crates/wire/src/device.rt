@@ -1,6 +1,8 @@
 // The device record.
 ghost use mathlib.Core.Path.{_≡_};
-ghost use Rattle.wire.specs.Device.{deviceAt, saysDevice};
+ghost use Rattle.wire.specs.Layout.{device};
+ghost use Rattle.wire.specs.Places.{rowAt};
+ghost use Rattle.wire.specs.Device.{saysDevice};
 use crate::Cursor;
 use crate::Part;
 use crate::run;
@@ -29,7 +31,7 @@ pub enum ReadDevice {
 }
 
 pub fn device_info(s: &[u8], c: Cursor) -> ReadDevice
-    ensures { λ r. ⌜ saysDevice r ≡ deviceAt (now (s .entry)) (c .at) ⌝ }
+    ensures { λ r. ⌜ saysDevice r ≡ rowAt device (now (s .entry)) (c .at) ⌝ }
 {
     let version = run::going(c).number(s, 2);
     let vendor = version.run.number(s, 4);

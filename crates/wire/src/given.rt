@@ -93,7 +93,7 @@ pub fn write_integer(v: Integer, out: &mut [u8]) -> Written
 {
     let b = bits_of(v);
     if out.len() < b.front + b.back {
-        return Written::Refused(layout::plain(9));
+        return Written::Refused(layout::plain(layout::ROOM));
     }
     let a = layout::store(out, 0, b.front, b.low);
     Written::Done(layout::store(out, a, b.back, b.high))
@@ -163,10 +163,10 @@ pub fn write_text(units: &[u16], out: &mut [u8]) -> Written
         return Written::Refused(layout::bad_text(0));
     }
     if 254 < units.len() {
-        return Written::Refused(layout::plain(10));
+        return Written::Refused(layout::plain(layout::COUNT));
     }
     if out.len() < text_len(units.len()) {
-        return Written::Refused(layout::plain(9));
+        return Written::Refused(layout::plain(layout::ROOM));
     }
     Written::Done(put_text(units, out))
 }
@@ -178,14 +178,14 @@ fn write_items(w: usize, items: &[u8], out: &mut [u8]) -> Written
 {
     let size = items.len();
     if size % w != 0 {
-        return Written::Refused(layout::plain(10));
+        return Written::Refused(layout::plain(layout::COUNT));
     }
     let n = size / w;
     if 0xFFFF_FFFF < n {
-        return Written::Refused(layout::plain(10));
+        return Written::Refused(layout::plain(layout::COUNT));
     }
     if out.len() < size + 4 {
-        return Written::Refused(layout::plain(9));
+        return Written::Refused(layout::plain(layout::ROOM));
     }
     let a = layout::store(out, 0, 4, n as u64);
     Written::Done(layout::copy(items, 0, size, out, a))
@@ -197,8 +197,8 @@ pub fn write_array(code: u16, items: &[u8], out: &mut [u8]) -> Written
 {
     match kind::shape_of(code) {
         Shape::Many(k) => write_items(kind::width_of(k), items, out),
-        Shape::One(_) => Written::Refused(layout::plain(12)),
-        Shape::Text => Written::Refused(layout::plain(12)),
-        Shape::Undef => Written::Refused(layout::plain(12)),
+        Shape::One(_) => Written::Refused(layout::plain(layout::PLACE)),
+        Shape::Text => Written::Refused(layout::plain(layout::PLACE)),
+        Shape::Undef => Written::Refused(layout::plain(layout::PLACE)),
     }
 }

@@ -1,15 +1,16 @@
 // A description's list: its n-th value; and the list handed out, a step at a time.
 ghost use mathlib.Core.Path.{_≡_};
-ghost use Rattle.wire.specs.List.{nthIn, nthValue, valueSlot, nthAt, saysNth, placeIn, placeOf, stepAt, saysStep, listAt};
+ghost use Rattle.wire.specs.List.{nthIn, nthValue, valueSlot, nthAt, saysNth, placeIn, placeOf, stepAt, saysStep, listAt, Nexts, Moves};
+ghost use Rattle.wire.specs.Property.{saysForm};
 use crate::Cursor;
+use crate::Span;
+use crate::past;
 use crate::property;
 use crate::property::Form;
 use crate::property::ReadProperty;
 use crate::property::Slot;
-use crate::row;
 use crate::value::ReadValue;
 use crate::value::Value;
-use crate::write::Measured;
 use layout::Refusal;
 
 // A value, its bytes, and the place after them.
@@ -41,25 +42,25 @@ fn value_slot(s: &[u8], code: u16, at: usize) -> ReadNth
 fn nth_value(s: &[u8], code: u16, start: usize, n: usize) -> ReadNth
     ensures { λ r. ⌜ saysNth r ≡ nthValue code n (now (s .entry)) start ⌝ }
 {
-    match row::measure_values(code, n, s, start) {
-        Measured::Whole { tidy: _, next } => value_slot(s, code, next),
-        Measured::Refused(f) => ReadNth::Refused(f),
+    match past::past_values(code, n, s, start) {
+        Span::Till(next) => value_slot(s, code, next.at),
+        Span::Refused(f) => ReadNth::Refused(f),
     }
 }
 
 fn nth_of(f: Form, code: u16, s: &[u8], n: usize) -> ReadNth
-    ensures { λ r. ⌜ saysNth r ≡ nthIn n code f (now (s .entry)) ⌝ }
+    ensures { λ r. ⌜ saysNth r ≡ nthIn n code (saysForm f) (now (s .entry)) ⌝ }
 {
     match f {
         Form::List(p, count) => {
             if n < count as usize {
                 nth_value(s, code, p.start, n)
             } else {
-                ReadNth::Refused(layout::plain(12))
+                ReadNth::Refused(layout::plain(layout::PLACE))
             }
         }
-        Form::Range(_, _, _) => ReadNth::Refused(layout::plain(12)),
-        Form::Absent => ReadNth::Refused(layout::plain(12)),
+        Form::Range(_, _, _) => ReadNth::Refused(layout::plain(layout::PLACE)),
+        Form::Absent => ReadNth::Refused(layout::plain(layout::PLACE)),
     }
 }
 
@@ -91,7 +92,7 @@ pub enum Step {
 }
 
 fn place_in(f: Form, ty: u16) -> Place
-    ensures { λ r. ⌜ r ≡ placeIn ty f ⌝ }
+    ensures { λ r. ⌜ r ≡ placeIn ty (saysForm f) ⌝ }
 {
     match f {
         Form::List(p, count) => Place {
@@ -170,13 +171,13 @@ pub fn list_of<'a>(src: &'a [u8]) -> Values<'a>
 }
 
 pub fn next<'a>(l: Values<'a>) -> Step
-    ensures { λ s. ⌜ saysStep s ≡ stepAt (now (l .entry .src)) (l .entry .ty) (l .entry .at) (l .entry .left) (l .entry .refusal) ⌝ }
+    ensures { λ r. ⌜ Nexts (l .entry) r ⌝ }
 {
     step_at(l.src, l.ty, l.at, l.left, l.refusal)
 }
 
 pub fn moved<'a>(l: Values<'a>, at: usize, left: u16) -> Values<'a>
-    ensures { λ q. ⌜ (q .src ≡ l .entry .src) × (q .ty ≡ l .entry .ty) × (q .at ≡ at) × (q .left ≡ left) × (q .refusal ≡ l .entry .refusal) ⌝ }
+    ensures { λ m. ⌜ Moves (l .entry) at left m ⌝ }
 {
     Values {
         src: l.src,

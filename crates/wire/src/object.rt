@@ -1,6 +1,8 @@
 // The object record.
 ghost use mathlib.Core.Path.{_≡_};
-ghost use Rattle.wire.specs.Object.{objectAt, saysObject};
+ghost use Rattle.wire.specs.Layout.{object};
+ghost use Rattle.wire.specs.Places.{rowAt};
+ghost use Rattle.wire.specs.Object.{saysObject};
 use crate::Cursor;
 use crate::Part;
 use crate::run;
@@ -34,7 +36,7 @@ pub enum ReadObject {
 }
 
 pub fn object_info(s: &[u8], c: Cursor) -> ReadObject
-    ensures { λ r. ⌜ saysObject r ≡ objectAt (now (s .entry)) (c .at) ⌝ }
+    ensures { λ r. ⌜ saysObject r ≡ rowAt object (now (s .entry)) (c .at) ⌝ }
 {
     let storage = run::going(c).number(s, 4);
     let format = storage.run.number(s, 2);

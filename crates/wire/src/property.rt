@@ -2,12 +2,12 @@
 ghost use mathlib.Core.Path.{_≡_};
 ghost use Rattle.layout.specs.Answer.{after};
 ghost use Rattle.wire.specs.Says.{ran, here};
-ghost use Rattle.wire.specs.Property.{valuesAt, rangeAt, listAt, formAt, propertyAt, saysProperty};
+ghost use Rattle.wire.specs.Property.{valuesAt, rangeAt, listAt, formAt, propertyAt, saysForm, saysProperty};
 use crate::Cursor;
-use crate::row;
+use crate::Span;
+use crate::past;
 use crate::run;
 use crate::run::Run;
-use crate::write::Measured;
 use layout::Refusal;
 
 // The bytes of a value, or of several.
@@ -56,15 +56,18 @@ impl Run {
         if self.ok {
             let c = self.next;
             let at = c.at;
-            match row::measure_values(code, n, s, at) {
-                Measured::Whole { tidy: _, next } => RunSlot {
-                    v: Slot {
-                        start: at,
-                        len: next - at,
-                    },
-                    run: run::going(Cursor { at: next }),
-                },
-                Measured::Refused(f) => RunSlot {
+            match past::past_values(code, n, s, at) {
+                Span::Till(next) => {
+                    let end = next.at;
+                    RunSlot {
+                        v: Slot {
+                            start: at,
+                            len: end - at,
+                        },
+                        run: run::going(next),
+                    }
+                }
+                Span::Refused(f) => RunSlot {
                     v: Slot { start: 0, len: 0 },
                     run: run::stopped(f),
                 },
@@ -78,7 +81,7 @@ impl Run {
     }
 
     fn range(self, s: &[u8], code: u16) -> RunForm
-        ensures { λ o. ⌜ ran (o .run) (o .v) ≡ after (here self) (λ _ p. rangeAt code (now (s .entry)) p) ⌝ }
+        ensures { λ o. ⌜ ran (o .run) (saysForm (o .v)) ≡ after (here self) (λ _ p. rangeAt code (now (s .entry)) p) ⌝ }
     {
         let low = self.values(s, code, 1);
         let high = low.run.values(s, code, 1);
@@ -94,7 +97,7 @@ impl Run {
     }
 
     fn list(self, s: &[u8], code: u16) -> RunForm
-        ensures { λ o. ⌜ ran (o .run) (o .v) ≡ after (here self) (λ _ p. listAt code (now (s .entry)) p) ⌝ }
+        ensures { λ o. ⌜ ran (o .run) (saysForm (o .v)) ≡ after (here self) (λ _ p. listAt code (now (s .entry)) p) ⌝ }
     {
         let count = self.number(s, 2);
         let n = count.v as u16;
@@ -109,7 +112,7 @@ impl Run {
 
     // The form byte, and what it announces.
     fn form(self, s: &[u8], code: u16) -> RunForm
-        ensures { λ o. ⌜ ran (o .run) (o .v) ≡ after (here self) (λ _ p. formAt code (now (s .entry)) p) ⌝ }
+        ensures { λ o. ⌜ ran (o .run) (saysForm (o .v)) ≡ after (here self) (λ _ p. formAt code (now (s .entry)) p) ⌝ }
     {
         let b = self.number(s, 1);
         if b.v == 1 {

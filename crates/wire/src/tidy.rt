@@ -6,6 +6,7 @@ ghost use Prim.Native.Nat.{_+_, _-_, _≤_};
 ghost use lib.ListN.{length};
 ghost use Rattle.layout.specs.Written.{Wrote, Put, spelling, took, tidied, saysWritten};
 ghost use Rattle.wire.specs.Codecs.{property};
+ghost use Rattle.wire.specs.Property.{saysForm, infoFrom};
 ghost use Rattle.wire.specs.Tidy.{rowWord, types};
 ghost use Rattle.wire.specs.TidyProperty.{headerWord, rangeWord, listWord, formWord, propertyWord, Well3, WellForm, Well};
 use crate::Cursor;
@@ -37,8 +38,8 @@ fn put_values(code: u16, n: usize, src: &[u8], at: usize, out: &mut [u8], o: usi
 }
 
 fn form_len(f: Form, code: u16, src: &[u8]) -> usize
-    requires { ⌜ length (formWord code (now src) f) ≤ length (now src) ⌝ }
-    ensures { λ r. ⌜ r ≡ length (formWord code (now (src .entry)) f) ⌝ }
+    requires { ⌜ length (formWord code (now src) (saysForm f)) ≤ length (now src) ⌝ }
+    ensures { λ r. ⌜ r ≡ length (formWord code (now (src .entry)) (saysForm f)) ⌝ }
 {
     match f {
         Form::Absent => 1,
@@ -74,9 +75,9 @@ fn put_list(n: usize, at: usize, code: u16, src: &[u8], out: &mut [u8], o: usize
 }
 
 fn put_form(f: Form, code: u16, src: &[u8], out: &mut [u8], o: usize) -> usize
-    requires { ⌜ WellForm code (now src) f ⌝ }
-    requires { ⌜ o + length (formWord code (now src) f) ≤ length (now out) ⌝ }
-    ensures { λ r. ⌜ Put (now (out .entry)) o (formWord code (now (src .entry)) f) (now (out .exit)) r ⌝ }
+    requires { ⌜ WellForm code (now src) (saysForm f) ⌝ }
+    requires { ⌜ o + length (formWord code (now src) (saysForm f)) ≤ length (now out) ⌝ }
+    ensures { λ r. ⌜ Put (now (out .entry)) o (formWord code (now (src .entry)) (saysForm f)) (now (out .exit)) r ⌝ }
 {
     match f {
         Form::Absent => layout::store(out, o, 1, 0),
@@ -86,9 +87,9 @@ fn put_form(f: Form, code: u16, src: &[u8], out: &mut [u8], o: usize) -> usize
 }
 
 fn property_len(p: PropInfo, src: &[u8]) -> usize
-    requires { ⌜ Well (now src) p ⌝ }
-    requires { ⌜ length (propertyWord (now src) p) ≤ length (now src) ⌝ }
-    ensures { λ r. ⌜ r ≡ length (propertyWord (now (src .entry)) p) ⌝ }
+    requires { ⌜ Well (now src) (infoFrom p) ⌝ }
+    requires { ⌜ length (propertyWord (now src) (infoFrom p)) ≤ length (now src) ⌝ }
+    ensures { λ r. ⌜ r ≡ length (propertyWord (now (src .entry)) (infoFrom p)) ⌝ }
 {
     let code = p.data_type;
     let default = values_len(code, 1, src, p.factory_default.start);
@@ -100,7 +101,7 @@ fn property_len(p: PropInfo, src: &[u8]) -> usize
 // Two numbers of two bytes, and two of one.
 fn put_header(p: PropInfo, out: &mut [u8]) -> usize
     requires { ⌜ 6 ≤ length (now out) ⌝ }
-    ensures { λ r. ⌜ Put (now (out .entry)) 0 (headerWord p) (now (out .exit)) r ⌝ }
+    ensures { λ r. ⌜ Put (now (out .entry)) 0 (headerWord (infoFrom p)) (now (out .exit)) r ⌝ }
 {
     let a = layout::store(out, 0, 2, p.property_code as u64);
     let b = layout::store(out, a, 2, p.data_type as u64);
@@ -109,9 +110,9 @@ fn put_header(p: PropInfo, out: &mut [u8]) -> usize
 }
 
 fn put_property(p: PropInfo, src: &[u8], out: &mut [u8]) -> usize
-    requires { ⌜ Well (now src) p ⌝ }
-    requires { ⌜ length (propertyWord (now src) p) ≤ length (now out) ⌝ }
-    ensures { λ r. ⌜ Put (now (out .entry)) 0 (propertyWord (now (src .entry)) p) (now (out .exit)) r ⌝ }
+    requires { ⌜ Well (now src) (infoFrom p) ⌝ }
+    requires { ⌜ length (propertyWord (now src) (infoFrom p)) ≤ length (now out) ⌝ }
+    ensures { λ r. ⌜ Put (now (out .entry)) 0 (propertyWord (now (src .entry)) (infoFrom p)) (now (out .exit)) r ⌝ }
 {
     let code = p.data_type;
     let form = p.form;
@@ -129,7 +130,7 @@ pub fn tidy_property(src: &[u8], out: &mut [u8]) -> Written
         ReadProperty::Refused(f) => Written::Refused(f),
         ReadProperty::Got(p, _) => {
             if out.len() < property_len(p, src) {
-                return Written::Refused(layout::plain(9));
+                return Written::Refused(layout::plain(layout::ROOM));
             }
             Written::Done(put_property(p, src, out))
         }

@@ -207,7 +207,7 @@ impl Cursor {
                 let start = part.start;
                 let count = part.count;
                 if !has_room(s, start, count, out, 0) {
-                    return Written::Refused(layout::plain(9));
+                    return Written::Refused(layout::plain(layout::ROOM));
                 }
                 Written::Done(put_units(s, start, count, out, 0))
             }

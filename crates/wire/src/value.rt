@@ -106,7 +106,7 @@ impl Cursor {
     {
         let at = self.at;
         if at < s.len() {
-            return Span::Refused(layout::plain(3));
+            return Span::Refused(layout::plain(layout::TRAIL));
         }
         Span::Till(self)
     }
@@ -122,7 +122,7 @@ impl Cursor {
                 if n < count {
                     (Cursor { at: start + n * 2 }).u16(s)
                 } else {
-                    ReadU16::Refused(layout::plain(12))
+                    ReadU16::Refused(layout::plain(layout::PLACE))
                 }
             }
             ReadPart::Refused(f) => ReadU16::Refused(f),
@@ -136,9 +136,9 @@ impl Cursor {
         let at = self.at;
         match kind::shape_of(code) {
             Shape::Many(k) => nth_item(s, at, k, n),
-            Shape::One(_) => ReadValue::Refused(layout::plain(12)),
-            Shape::Text => ReadValue::Refused(layout::plain(12)),
-            Shape::Undef => ReadValue::Refused(layout::plain(12)),
+            Shape::One(_) => ReadValue::Refused(layout::plain(layout::PLACE)),
+            Shape::Text => ReadValue::Refused(layout::plain(layout::PLACE)),
+            Shape::Undef => ReadValue::Refused(layout::plain(layout::PLACE)),
         }
     }
 }
@@ -154,7 +154,7 @@ fn nth_item(s: &[u8], at: usize, k: Kind, n: usize) -> ReadValue
             if n < count {
                 number_value(s, start + n * w, k)
             } else {
-                ReadValue::Refused(layout::plain(12))
+                ReadValue::Refused(layout::plain(layout::PLACE))
             }
         }
         ReadPart::Refused(f) => ReadValue::Refused(f),

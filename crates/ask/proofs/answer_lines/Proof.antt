@@ -1,4 +1,4 @@
--- `ask::answer_lines` ends: each line ends behind what was seen. Assumes nothing.
+-- `ask::answer_lines` ends: what is left of the lines falls. Assumes nothing.
 use mathlib.Core.Path.{_≡_}
 use Prim.Native.Nat.{_-_}
 use lib.ListN.{length}
@@ -7,10 +7,10 @@ use Rattle.ask.proofs.answer_lines.Statement.{statement}
 use Rattle.ask.proofs.answer_lines.Tie as tie
 
 abbrev Inv-loop : tie.InvT-loop
-Inv-loop lines₀ end out₀ halves₀ numbers₀ text₀ start₀ seen₀ is-long₀ at₀ lines out halves numbers text start seen is-long at = (length lines ≡ length lines₀) × (length out ≡ length out₀) × (length halves ≡ length halves₀) × (length numbers ≡ length numbers₀) × (length text ≡ length text₀)
+Inv-loop lines₀ end text₀ start₀ seen₀ is-long₀ at₀ lines text start seen is-long at = (length lines ≡ length lines₀) × (length text ≡ length text₀)
 
 abbrev μ-loop : tie.MeasureT-loop
-μ-loop lines₀ end out₀ halves₀ numbers₀ text₀ start₀ seen₀ is-long₀ at₀ lines out halves numbers text start seen is-long at = end - seen
+μ-loop lines₀ end text₀ start₀ seen₀ is-long₀ at₀ lines text start seen is-long at = end - seen
 
 pub answer-lines-spec : {M : Type 1} → statement M
 answer-lines-spec =
@@ -24,9 +24,7 @@ answer-lines-spec =
     (λ c. search needs)
     (λ c. search needs)
     (λ c. search needs)
-    (λ c. search needs)
-    (λ c. search needs)
-    (λ c. search needs)
+    (λ c κs. search needs)
     (λ c κs. search needs)
     (λ c κs. search needs)
     (λ c. search needs)

@@ -6,10 +6,10 @@ use Rattle.ask.proofs.run.Statement.{statement}
 use Rattle.ask.proofs.run.Tie as tie
 
 abbrev Inv-loop : tie.InvT-loop
-Inv-loop lines₀ out₀ halves₀ numbers₀ text₀ held₀ turns₀ lines out halves numbers text held turns = (length lines ≡ length lines₀) × (length out ≡ length out₀) × (length halves ≡ length halves₀) × (length numbers ≡ length numbers₀) × (length text ≡ length text₀)
+Inv-loop lines₀ text₀ held₀ turns₀ lines text held turns = (length lines ≡ length lines₀) × (length text ≡ length text₀)
 
 abbrev μ-loop : tie.MeasureT-loop
-μ-loop lines₀ out₀ halves₀ numbers₀ text₀ held₀ turns₀ lines out halves numbers text held turns = turns
+μ-loop lines₀ text₀ held₀ turns₀ lines text held turns = turns
 
 pub run-spec : {M : Type 1} → statement M
 run-spec =
@@ -19,10 +19,10 @@ run-spec =
     μ-loop
     (λ c. search needs)
     (λ c κs. search needs)
+    (λ c. search needs)
+    (λ c. search needs)
+    (λ c. search needs)
     (λ c κs. search needs)
-    (λ c. search needs)
-    (λ c. search needs)
-    (λ c. search needs)
     (λ c. search needs)
     (λ c. search needs)
     (λ c. search needs)

@@ -4,10 +4,10 @@ use Rattle.list.proofs.main.Statement.{statement}
 use Rattle.list.proofs.main.Tie as tie
 
 abbrev Inv-loop : tie.InvT-loop
-Inv-loop window₀ out₀ state₀ turns₀ window out state turns = Unit {0}
+Inv-loop window₀ out₀ stand₀ turns₀ window out stand turns = Unit {0}
 
 abbrev μ-loop : tie.MeasureT-loop
-μ-loop window₀ out₀ state₀ turns₀ window out state turns = turns
+μ-loop window₀ out₀ stand₀ turns₀ window out stand turns = turns
 
 pub main-spec : {M : Type 1} → statement M
 main-spec =
@@ -22,7 +22,6 @@ main-spec =
     (λ c κs. search needs)
     (λ c. search needs)
     (λ c. search needs)
-    (λ c κs. search needs)
     (λ c. search needs)
     (λ c. search needs)
     (λ c. search needs)

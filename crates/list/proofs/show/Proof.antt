@@ -9,7 +9,7 @@ pub show-spec : {M : Type 1} → statement M
 show-spec =
     tie.close
     (tie.spec
+    (λ c. sym (length-take-le _ _ (c .before .before .pre)))
     (λ c. search needs)
-    (λ c. sym (length-take-le _ _ (c .before .if1 .left)))
     (λ c κs. search needs)
     (λ c. search needs))

@@ -6,13 +6,14 @@ use native.Mathlib.Omega.{arith}
 use denote.Ref.{now}
 use lib.ListN.{length, drop, length-drop}
 use Rattle.layout.specs.Answer.{got, refused}
-use Rattle.layout.proofs.Accepted.{accepted}
-use Rattle.layout.proofs.Numbers.{bytes-of, Bytes-drop}
-use Rattle.layout.proofs.Reading.{heard}
-use Rattle.recording.specs.Record.{recordOf, saysRecord}
-use Rattle.recording.proofs.Rowed.{record-stands, record-small}
+use Rattle.layout.proofs.laws.Accepted.{accepted}
+use Rattle.layout.proofs.laws.Numbers.{bytes-of, Bytes-drop}
+use Rattle.layout.proofs.laws.Reading.{heard}
+use Rattle.recording.specs.Record.{recordOf, saysRecord, recordFrom}
+use Rattle.recording.proofs.laws.Rowed.{record-stands, record-small}
 use Rattle.listing.specs.Lines.{recordLine}
 use Rattle.listing.specs.Window.{lineRoom, waits, windowOf}
+use Rattle.listing.proofs.Cut.{whole-ready}
 use Rattle.listing.proofs.Fitting.{record-short, refusal-short}
 use Rattle.listing.proofs.Windows.{Goes, begins, part-from, turn, wrong, goes-out, window-full, window-waits}
 use borrow.Author.Needs.{needs}
@@ -27,16 +28,16 @@ abbrev μ-loop : tie.MeasureT-loop
 μ-loop s last start count names out₀ used₀ written₀ place₀ records₀ out used written place records = length s - used
 
 -- the record that was read, and the room for its line
-read : (c : tie.After-x Inv-loop μ-loop) → got (c .x .given .0 .0) (c .x .given .0 .1 .0 .at) ≡ recordOf (drop (c .before .before .before .before .before .before .before .loop .used) (now (c .before .before .before .before .before .before .before .before .before .before .before .args .s)))
-read c = rw (part-from (now (c .before .before .before .before .before .before .before .before .before .before .before .args .s)) (c .before .before .before .before .before .before .before .loop .used)) at (heard saysRecord (c .x .given .1) (c .before .before .read-record .ensures))
+read : (c : tie.After-x Inv-loop μ-loop) → got (recordFrom (c .x .given .0 .0)) (c .x .given .0 .1 .0 .at) ≡ recordOf (drop (c .before .before .before .before .before .loop .used) (now (c .before .before .before .before .before .before .before .before .before .args .s)))
+read c = rw (part-from (now (c .before .before .before .before .before .before .before .before .before .args .s)) (c .before .before .before .before .before .loop .used)) at (heard saysRecord (c .x .given .1) (c .before .before .read-record .ensures))
 
-short-line : (c : tie.After-x Inv-loop μ-loop) → length (recordLine (c .before .before .before .before .before .before .before .loop .place) (c .x .given .0 .0)) ≤ lineRoom
+short-line : (c : tie.After-x Inv-loop μ-loop) → length (recordLine (c .before .before .before .before .before .loop .place) (recordFrom (c .x .given .0 .0))) ≤ lineRoom
 short-line c =
-    let l = c .before .before .before .before .before .before .before in
+    let l = c .before .before .before .before .before in
     let s = now (l .before .before .before .before .args .s) in
     let rest = drop (l .loop .used) s in
     let bytes = Bytes-drop (l .loop .used) s (bytes-of s (λ i. l .before .before .before .shared-slice-known .given i .fits)) in
-    record-short (l .loop .place) rest (c .x .given .0 .0) (c .x .given .0 .1 .0 .at) (l .loop .inv .2) (omega (arith, length-drop (l .loop .used) s))
+    record-short (l .loop .place) rest (recordFrom (c .x .given .0 .0)) (c .x .given .0 .1 .0 .at) (l .loop .inv .2) (omega (arith, length-drop (l .loop .used) s))
     (accepted _ (record-stands rest) (read c)) (accepted _ (record-small rest bytes) (read c))
 
 loop-holds : tie.Need-loop-holds Inv-loop μ-loop
@@ -44,62 +45,61 @@ loop-holds c =
     let a = c .before .before .before .args in
     (begins (a .last) (now (a .s)) (now (a .out)) (a .start) (a .count), omega arith, c .before .before .before .fits .start .fits)
 
-returns : tie.Need-returns Inv-loop μ-loop
-returns c =
-    let l = c .before .before .before .before .before in
-    let a = l .before .before .before .before .args in
-    let w : waits (a .last) (drop (l .loop .used) (now (a .s))) ≡ true = rw (part-from (now (a .s)) (l .loop .used)) at (sym (c .before .before .waits .ensures) ∙ c .before .if1 .taken) in
-    rw (c .answer .ensures)
-    (goes-out (l .loop .place) (l .loop .records) (window-waits (a .last) (length (l .loop .out) - l .loop .written) (drop (l .loop .used) (now (a .s))) (l .loop .place) (l .loop .records) w) (l .loop .inv .0))
-
 put-record-requires : tie.Need-put-record-requires Inv-loop μ-loop
 put-record-requires c κs =
     let h = short-line (c .before .before) in
-    (c .before .before .before .before .before .before .before .before .before .before .before .before .before .pre, omega (arith, c .before .before .before .before .before .before .before .before .loop-test .taken))
+    (c .before .before .before .before .before .before .before .before .before .before .before .pre, omega (arith, c .before .before .before .before .before .before .loop-test .taken))
 
 add-used : tie.Need-add-used Inv-loop μ-loop
 add-used c =
     let k = c .before .before .before .before .before in
-    let l = k .before .before .before .before .before .before .before in
+    let l = k .before .before .before .before .before in
     let r = accepted _ (record-stands (drop (l .loop .used) (now (l .before .before .before .before .args .s)))) (read k) in
     record { fits = omega (arith, r .within, length-drop (l .loop .used) (now (l .before .before .before .before .args .s))) }
 
 loop-less : tie.Need-loop-less Inv-loop μ-loop
 loop-less c =
     let k = c .before .before .before .before .before .before .before in
-    let l = k .before .before .before .before .before .before .before in
+    let l = k .before .before .before .before .before in
     let r = accepted _ (record-stands (drop (l .loop .used) (now (l .before .before .before .before .args .s)))) (read k) in
     omega (arith, r .till, r .within, length-drop (l .loop .used) (now (l .before .before .before .before .args .s)))
 
 loop-again : tie.Need-loop-again Inv-loop μ-loop
 loop-again c =
     let k = c .before .before .before .before .before .before .before in
-    let l = k .before .before .before .before .before .before .before in
+    let l = k .before .before .before .before .before in
     let a = l .before .before .before .before .args in
     let s = now (a .s) in
     let rest = drop (l .loop .used) s in
     let r = accepted _ (record-stands rest) (read k) in
-    let ready : waits (a .last) rest ≡ false = rw (part-from s (l .loop .used)) at (sym (k .before .before .before .before .waits .ensures) ∙ k .before .before .before .if1 .left) in
-    let g = turn (a .last) s (l .loop .place) (l .loop .records) (l .loop .inv .0) (k .before .before .before .before .before .before .loop-test .taken) ready (read k) (short-line k) (c .before .before .before .before .put-record .ensures) in
+    let g = turn (a .last) s (l .loop .place) (l .loop .records) (l .loop .inv .0) (k .before .before .before .before .loop-test .taken) (whole-ready (a .last) rest (read k)) (read k) (short-line k) (c .before .before .before .before .put-record .ensures) in
     (rw (c .before .wrapping-add-u64 .ensures, c .wrapping-add-u642 .ensures) g, omega (arith, r .within, length-drop (l .loop .used) s), c .before .wrapping-add-u64 .ok)
+
+returns : tie.Need-returns Inv-loop μ-loop
+returns c =
+    let l = c .before .before .before .before .before .before .before .before .before in
+    let a = l .before .before .before .before .args in
+    let w : waits (a .last) (drop (l .loop .used) (now (a .s))) ≡ true = rw (part-from (now (a .s)) (l .loop .used)) at (sym (c .before .before .waits .ensures) ∙ c .before .if1 .taken) in
+    rw (c .answer .ensures)
+    (goes-out (l .loop .place) (l .loop .records) (window-waits (a .last) (length (l .loop .out) - l .loop .written) (drop (l .loop .used) (now (a .s))) (l .loop .place) (l .loop .records) w) (l .loop .inv .0))
 
 put-refusal-requires : tie.Need-put-refusal-requires Inv-loop μ-loop
 put-refusal-requires c κs =
     let l = c .before .before .before .before .before .before .before .before .before in
-    let h = refusal-short (l .loop .place) (c .before .before .f .given .0 .0) (l .loop .inv .2) (c .before .known-told2 .given .0 .1 .1 .0 .1) in
+    let h = refusal-short (l .loop .place) (c .before .before .before .before .f .given .0 .0) (l .loop .inv .2) (c .before .before .before .known-told2 .given .0 .1 .1 .0 .1) in
     omega (arith, c .before .before .before .before .before .before .before .before .loop-test .taken)
 
 returns-2 : tie.Need-returns-2 Inv-loop μ-loop
 returns-2 c =
-    let k = c .before .before .before .before .before .before in
-    let l = k .before .before .before .before .before .before .before in
+    let k = c .before .before .before .before .before .before .before .before in
+    let l = k .before .before .before .before .before in
     let a = l .before .before .before .before .args in
     let s = now (a .s) in
     let rest = drop (l .loop .used) s in
-    let ready : waits (a .last) rest ≡ false = rw (part-from s (l .loop .used)) at (sym (k .before .before .before .before .waits .ensures) ∙ k .before .before .before .if1 .left) in
+    let ready : waits (a .last) rest ≡ false = rw (part-from s (l .loop .used)) at (sym (c .before .before .before .before .before .before .waits .ensures) ∙ c .before .before .before .before .before .if1 .left) in
     let e : refused (k .f .given .0 .0) ≡ recordOf rest = rw (part-from s (l .loop .used)) at (heard saysRecord (k .f .given .1) (k .before .before .read-record .ensures)) in
-    let h = refusal-short (l .loop .place) (k .f .given .0 .0) (l .loop .inv .2) (c .before .before .before .before .before .known-told2 .given .0 .1 .1 .0 .1) in
-    rw (c .answer2 .ensures) (wrong (a .last) s (l .loop .place) (l .loop .records) (l .loop .inv .0) (k .before .before .before .before .before .before .loop-test .taken) ready e h (c .before .before .before .put-refusal .ensures))
+    let h = refusal-short (l .loop .place) (k .f .given .0 .0) (l .loop .inv .2) (c .before .before .before .before .before .before .before .known-told2 .given .0 .1 .1 .0 .1) in
+    rw (c .answer2 .ensures) (wrong (a .last) s (l .loop .place) (l .loop .records) (l .loop .inv .0) (k .before .before .before .before .loop-test .taken) ready e h (c .before .before .before .put-refusal .ensures))
 
 returns-3 : tie.Need-returns-3 Inv-loop μ-loop
 returns-3 c =
@@ -120,10 +120,6 @@ list-from-spec =
     (λ c. search needs)
     (λ c. search needs)
     (λ c κs. search needs)
-    (λ c κs. search needs)
-    (λ c. search needs)
-    returns
-    (λ c κs. search needs)
     (λ c. search needs)
     put-record-requires
     add-used
@@ -132,6 +128,10 @@ list-from-spec =
     loop-less
     loop-again
     (λ c. search needs)
+    (λ c κs. search needs)
+    (λ c κs. search needs)
+    (λ c. search needs)
+    returns
     put-refusal-requires
     (λ c κs. search needs)
     (λ c. search needs)

@@ -2,8 +2,8 @@
 use mathlib.Core.Path.{refl, sym}
 use native.Mathlib.Omega.{arith}
 use lib.Seq.{length-take-le}
-use Rattle.layout.proofs.Stored.{first, put-whole}
-use Rattle.layout.proofs.Writing.{no-room, done, long}
+use Rattle.layout.proofs.laws.Stored.{first, put-whole}
+use Rattle.layout.proofs.laws.Writing.{no-room, done, long}
 use Rattle.listing.proofs.Numerals.{shown}
 use borrow.Author.Needs.{needs}
 use Rattle.listing.proofs.write_ending.Statement.{statement}

@@ -1,8 +1,6 @@
 -- `listing::write_heading`: the room's test, then the text. Assumes nothing.
 use mathlib.Core.Path.{refl}
-use native.Mathlib.Omega.{arith}
-use Rattle.layout.proofs.Stored.{first}
-use Rattle.layout.proofs.Writing.{no-room, done}
+use Rattle.layout.proofs.laws.Writing.{no-room, done}
 use Rattle.listing.specs.Lines.{heading}
 use borrow.Author.Needs.{needs}
 use Rattle.listing.proofs.write_heading.Statement.{statement}
@@ -14,7 +12,7 @@ returns c = no-room refl (c .before .if1 .taken) (c .plain .ensures)
 
 returns-2 : tie.Need-returns-2
 unfolding heading
-returns-2 c = done refl (c .before .before .before .before .before .if1 .left) (first (omega (arith, c .before .before .before .before .before .if1 .left)) (c .before .before .copy .ensures))
+returns-2 c = done refl (c .before .before .before .before .if1 .left) (c .before .before .put-heading .ensures)
 
 pub write-heading-spec : {M : Type 1} → statement M
 write-heading-spec =

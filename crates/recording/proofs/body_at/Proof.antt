@@ -1,11 +1,7 @@
--- `recording::body_at`: the tests in their order, then what the body holds. Assumes nothing.
+-- `recording::body_at`: the tests in their order. Assumes nothing.
 use mathlib.Core.Path.{sym, _∙_}
-use native.Mathlib.Omega.{arith}
 use borrow.Author.Tests.{not-true, not-false}
 use denote.Ref.{now}
-use lib.Seq.{length-take-le}
-use Rattle.layout.proofs.Reading.{heard, meant, not-meant}
-use Rattle.recording.specs.Record.{saysContent}
 use Rattle.recording.proofs.Recorded.{long-enough, body-13, body-14, body-short, body-there}
 use borrow.Author.Needs.{needs}
 use Rattle.recording.proofs.body_at.Statement.{statement}
@@ -26,22 +22,10 @@ returns-3 c =
     let a = c .before .before .before .before .before .before .args in
     body-short (a .len) (a .kind) (now (a .s)) (a .start) (sym (c .before .before .before .before .begins .ensures) ∙ not-false _ (c .before .before .before .if1 .left)) (c .before .before .if2 .left) (c .before .if3 .taken) (c .end-at .ensures)
 
-slice-aggregate-content-at : tie.Need-slice-aggregate-content-at
-slice-aggregate-content-at c = sym (length-take-le _ _ (omega arith))
-
 returns-4 : tie.Need-returns-4
 returns-4 c =
-    let k = c .before .before .before .before .before in
-    let a = k .before .before .before .before .before .args in
-    body-there (a .len) (a .kind) (now (a .s)) (a .start) (sym (k .before .before .before .begins .ensures) ∙ not-false _ (k .before .before .if1 .left)) (k .before .if2 .left) (k .if3 .left)
-    (meant _ (heard saysContent (c .before .content .given .1) (c .before .before .before .content-at .ensures)))
-
-returns-5 : tie.Need-returns-5
-returns-5 c =
-    let k = c .before .before .before .before .before in
-    let a = k .before .before .before .before .before .args in
-    body-there (a .len) (a .kind) (now (a .s)) (a .start) (sym (k .before .before .before .begins .ensures) ∙ not-false _ (k .before .before .if1 .left)) (k .before .if2 .left) (k .if3 .left)
-    (not-meant _ (heard saysContent (c .before .f .given .1) (c .before .before .before .content-at .ensures)))
+    let a = c .before .before .before .before .before .args in
+    body-there (a .len) (a .kind) (now (a .s)) (a .start) (sym (c .before .before .before .begins .ensures) ∙ not-false _ (c .before .before .if1 .left)) (c .before .if2 .left) (c .if3 .left)
 
 pub body-at-spec : {M : Type 1} → statement M
 body-at-spec =
@@ -58,9 +42,4 @@ body-at-spec =
     (λ c κs. search needs)
     returns-3
     (λ c. search needs)
-    slice-aggregate-content-at
-    (λ c κs. search needs)
-    (λ c. search needs)
-    (λ c. search needs)
-    returns-4
-    returns-5)
+    returns-4)

@@ -2,7 +2,7 @@
 use mathlib.Core.Path.{refl}
 use native.Mathlib.Omega.{arith}
 use denote.Ref.{now}
-use Rattle.layout.proofs.Writing.{no-room, done}
+use Rattle.layout.proofs.laws.Writing.{no-room, done}
 use Rattle.recording.proofs.Recorded.{record-length, record-put}
 use borrow.Author.Needs.{needs}
 use Rattle.recording.proofs.put_record.Statement.{statement}

@@ -1,35 +1,36 @@
--- `recording::read_record`: length and kind, then the body. Assumes nothing.
-use Rattle.layout.proofs.Reading.{heard, follow, stop}
-use Rattle.wire.specs.Says.{saysU16, saysU32}
-use native.Mathlib.Omega.{arith}
+-- `recording::read_record`: the head, then what its body holds. Assumes nothing.
+use mathlib.Core.Path.{sym}
 use denote.Ref.{now}
-use Rattle.recording.specs.Record.{recordOf}
-use Rattle.recording.proofs.Recorded.{field-ends}
+use lib.Seq.{length-take-le}
+use Rattle.layout.proofs.laws.Accepted.{accepted}
+use Rattle.layout.proofs.laws.Reading.{heard, follow, stop, meant, not-meant}
+use Rattle.recording.specs.Record.{recordOf, saysReadContent, saysHead}
+use Rattle.recording.proofs.laws.Rowed.{head-stands}
 use borrow.Author.Needs.{needs}
 use Rattle.recording.proofs.read_record.Statement.{statement}
 use Rattle.recording.proofs.read_record.Tie as tie
 
-body-at-requires : tie.Need-body-at-requires
-body-at-requires c κs =
-    let k = c .before in
-    field-ends 2 (now (k .before .before .before .before .before .before .before .before .args .s)) _ (heard saysU16 (k .kind .given .1) (k .before .before .u16 .ensures)) (omega arith)
+slice-aggregate-content-at : tie.Need-slice-aggregate-content-at
+slice-aggregate-content-at c =
+    let k = c .before .before .before in
+    let p = accepted _ (head-stands (now (k .before .before .before .before .args .s))) (heard saysHead (k .head .given .1) (k .before .before .read-head .ensures)) in
+    sym (length-take-le _ _ (p .2))
 
 returns : tie.Need-returns
 unfolding recordOf
 returns c =
-    let k = c .before .before in
-    let h = k .before .before .before .before in
-    follow _ (heard saysU32 (h .len .given .1) (h .before .before .u32 .ensures)) (follow _ (heard saysU16 (k .kind .given .1) (k .before .before .u16 .ensures)) (c .body-at .ensures))
+    let k = c .before .before .before .before .before .before .before in
+    follow _ (heard saysHead (k .head .given .1) (k .before .before .read-head .ensures)) (meant _ (heard saysReadContent (c .before .content .given .1) (c .before .before .before .content-at .ensures)))
 
 returns-2 : tie.Need-returns-2
 unfolding recordOf
 returns-2 c =
-    let h = c .before .before .before .before .before in
-    follow _ (heard saysU32 (h .len .given .1) (h .before .before .u32 .ensures)) (stop _ (heard saysU16 (c .before .f .given .1) (c .before .before .before .u16 .ensures)))
+    let k = c .before .before .before .before .before .before .before in
+    follow _ (heard saysHead (k .head .given .1) (k .before .before .read-head .ensures)) (not-meant _ (heard saysReadContent (c .before .f .given .1) (c .before .before .before .content-at .ensures)))
 
 returns-3 : tie.Need-returns-3
 unfolding recordOf
-returns-3 c = stop _ (heard saysU32 (c .before .f2 .given .1) (c .before .before .before .u32 .ensures))
+returns-3 c = stop _ (heard saysHead (c .before .f2 .given .1) (c .before .before .before .read-head .ensures))
 
 pub read-record-spec : {M : Type 1} → statement M
 read-record-spec =
@@ -37,9 +38,9 @@ read-record-spec =
     (tie.spec
     (λ c κs. search needs)
     (λ c. search needs)
+    slice-aggregate-content-at
     (λ c κs. search needs)
     (λ c. search needs)
-    body-at-requires
     (λ c. search needs)
     (λ c. search needs)
     returns

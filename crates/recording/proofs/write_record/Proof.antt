@@ -2,9 +2,9 @@
 use mathlib.Core.Path.{sym, _∙_}
 use borrow.Author.Tests.{not-true, not-false}
 use denote.Ref.{now}
-use Rattle.layout.proofs.Reading.{heard}
-use Rattle.layout.proofs.Writing.{refusal}
-use Rattle.recording.specs.Record.{saysContent}
+use Rattle.layout.proofs.laws.Reading.{heard}
+use Rattle.layout.proofs.laws.Writing.{refusal}
+use Rattle.recording.specs.Record.{saysReadContent}
 use Rattle.recording.proofs.Recorded.{said-13, said-14, said-refused, said-bytes}
 use borrow.Author.Needs.{needs}
 use Rattle.recording.proofs.write_record.Statement.{statement}
@@ -24,14 +24,14 @@ returns-3 : tie.Need-returns-3
 returns-3 c =
     let k = c .before .before .before .before .before .before .before in
     let a = k .before .before .before .before .before .args in
-    rw (said-bytes (a .kind) (now (a .body)) (sym (k .before .before .is-kind .ensures) ∙ not-false _ (k .before .if1 .left)) (k .if2 .left) (heard saysContent (c .before .before .before .before .enum-told .given .1) (c .before .before .before .before .before .before .content-at .ensures)))
+    rw (said-bytes (a .kind) (now (a .body)) (sym (k .before .before .is-kind .ensures) ∙ not-false _ (k .before .if1 .left)) (k .if2 .left) (heard saysReadContent (c .before .before .before .before .enum-told .given .1) (c .before .before .before .before .before .before .content-at .ensures)))
     (c .before .before .put-record .ensures)
 
 returns-4 : tie.Need-returns-4
 returns-4 c =
     let k = c .before .before .before .before in
     let a = k .before .before .before .before .before .args in
-    refusal (said-refused (a .kind) (now (a .body)) (sym (k .before .before .is-kind .ensures) ∙ not-false _ (k .before .if1 .left)) (k .if2 .left) (heard saysContent (c .before .f .given .1) (c .before .before .before .content-at .ensures)))
+    refusal (said-refused (a .kind) (now (a .body)) (sym (k .before .before .is-kind .ensures) ∙ not-false _ (k .before .if1 .left)) (k .if2 .left) (heard saysReadContent (c .before .f .given .1) (c .before .before .before .content-at .ensures)))
 
 pub write-record-spec : {M : Type 1} → statement M
 write-record-spec =

@@ -1,9 +1,9 @@
 -- `abi::dataset::give_prop`: the record's row, or its refusal. Assumes nothing.
 use borrow.Author.Needs.{needs}
-use Rattle.layout.proofs.Reading.{heard}
+use Rattle.layout.proofs.laws.Reading.{heard}
 use Rattle.wire.specs.Property.{saysProperty}
 use Rattle.abi.specs.Rows.{propRow}
-use Rattle.abi.proofs.Answers.{row-given, row-refused}
+use Rattle.abi.proofs.laws.Answers.{row-given, row-refused}
 use Rattle.abi.proofs.dataset.give_prop.Statement.{statement}
 use Rattle.abi.proofs.dataset.give_prop.Tie as tie
 

@@ -1,19 +1,19 @@
 -- `abi::dataset::give_storage`: the record's row, or its refusal. Assumes nothing.
 use borrow.Author.Needs.{needs}
-use Rattle.layout.proofs.Reading.{heard}
+use Rattle.layout.proofs.laws.Reading.{heard}
 use Rattle.wire.specs.Storage.{saysStorage}
-use Rattle.abi.specs.Rows.{storageRow}
-use Rattle.abi.proofs.Answers.{row-given, row-refused}
+use Rattle.abi.specs.Rows.{fieldsRow}
+use Rattle.abi.proofs.laws.Answers.{row-given, row-refused}
 use Rattle.abi.proofs.dataset.give_storage.Statement.{statement}
 use Rattle.abi.proofs.dataset.give_storage.Tie as tie
 
 returns : tie.Need-returns
 returns c =
     let r = c .before .before .before .before .before in
-    row-given storageRow (heard saysStorage (r .before .before .x .given .1) (r .before .before .before .before .storage-info .ensures)) (r .storage-row .ensures) (c .before .before .give .ensures)
+    row-given fieldsRow (heard saysStorage (r .before .before .x .given .1) (r .before .before .before .before .storage-info .ensures)) (r .storage-row .ensures) (c .before .before .give .ensures)
 
 returns-2 : tie.Need-returns-2
-returns-2 c = row-refused storageRow (heard saysStorage (c .before .f .given .1) (c .before .before .before .storage-info .ensures))
+returns-2 c = row-refused fieldsRow (heard saysStorage (c .before .f .given .1) (c .before .before .before .storage-info .ensures))
 
 pub give-storage-spec : {M : Type 1} → statement M
 give-storage-spec =

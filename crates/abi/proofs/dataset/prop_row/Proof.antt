@@ -2,14 +2,15 @@
 use borrow.Author.Needs.{needs}
 use mathlib.Core.Path.{_∙_, ap}
 use lib.ListN.{length}
-use Rattle.abi.proofs.Answers.{spread, form-long}
+use Rattle.wire.specs.Property.{saysForm}
+use Rattle.abi.proofs.laws.Answers.{spread, form-long}
 use Rattle.abi.proofs.dataset.prop_row.Statement.{statement}
 use Rattle.abi.proofs.dataset.prop_row.Tie as tie
 
 returns : tie.Need-returns
 returns c =
     let f = c .before .before .before .before .form-row in
-    rw (spread 7 (f .result) (ap length (f .ensures) ∙ form-long (c .before .before .before .before .before .args .x .form)), f .ensures)
+    rw (spread 7 (f .result) (ap length (f .ensures) ∙ form-long (saysForm (c .before .before .before .before .before .args .x .form))), f .ensures)
 
 pub prop-row-spec : {M : Type 1} → statement M
 prop-row-spec =

@@ -1,9 +1,9 @@
 -- `abi::record::give_record`: the record's row, or its refusal. Assumes nothing.
 use borrow.Author.Needs.{needs}
-use Rattle.layout.proofs.Reading.{heard}
+use Rattle.layout.proofs.laws.Reading.{heard}
 use Rattle.recording.specs.Record.{saysRecord}
 use Rattle.abi.specs.Rows.{recordRow}
-use Rattle.abi.proofs.Answers.{row-given, row-refused}
+use Rattle.abi.proofs.laws.Answers.{row-given, row-refused}
 use Rattle.abi.proofs.record.give_record.Statement.{statement}
 use Rattle.abi.proofs.record.give_record.Tie as tie
 

@@ -1,10 +1,10 @@
 -- `abi::transaction::give_answer`: the row of what was found, or its refusal. Assumes nothing.
 use borrow.Author.Needs.{needs}
 use mathlib.Core.Path.{refl}
-use Rattle.layout.proofs.Reading.{heard}
+use Rattle.layout.proofs.laws.Reading.{heard}
 use Rattle.session.specs.Search.{saysFound}
 use Rattle.abi.specs.Rows.{replyRow}
-use Rattle.abi.proofs.Answers.{row-given, row-refused}
+use Rattle.abi.proofs.laws.Answers.{row-given, row-refused}
 use Rattle.abi.proofs.transaction.give_answer.Statement.{statement}
 use Rattle.abi.proofs.transaction.give_answer.Tie as tie
 

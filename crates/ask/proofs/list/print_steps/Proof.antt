@@ -7,10 +7,10 @@ use Rattle.ask.proofs.list.print_steps.Statement.{statement}
 use Rattle.ask.proofs.list.print_steps.Tie as tie
 
 abbrev Inv-loop : tie.InvT-loop
-Inv-loop src ty start count refusal text₀ to at₀ left₀ o₀ n₀ text at left o n = length text ≡ length text₀
+Inv-loop src ty refusal text₀ to step₀ o₀ n₀ text step o n = length text ≡ length text₀
 
 abbrev μ-loop : tie.MeasureT-loop
-μ-loop src ty start count refusal text₀ to at₀ left₀ o₀ n₀ text at left o n = 65536 - n
+μ-loop src ty refusal text₀ to step₀ o₀ n₀ text step o n = 65536 - n
 
 pub print-steps-spec : {M : Type 1} → statement M
 print-steps-spec =
@@ -18,9 +18,10 @@ print-steps-spec =
     (tie.spec
     Inv-loop
     μ-loop
-    (λ c. search needs)
     (λ c κs. search needs)
     (λ c. search needs)
+    (λ c. search needs)
+    (λ c κs. search needs)
     (λ c κs. search needs)
     (λ c. search needs)
     (λ c. search needs)

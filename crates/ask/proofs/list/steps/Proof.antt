@@ -5,10 +5,10 @@ use Rattle.ask.proofs.list.steps.Statement.{statement}
 use Rattle.ask.proofs.list.steps.Tie as tie
 
 abbrev Inv-loop : tie.InvT-loop
-Inv-loop src ty start count refusal at₀ left₀ n₀ at left n = Unit {0}
+Inv-loop src ty refusal step₀ n₀ step n = Unit {0}
 
 abbrev μ-loop : tie.MeasureT-loop
-μ-loop src ty start count refusal at₀ left₀ n₀ at left n = 65536 - n
+μ-loop src ty refusal step₀ n₀ step n = 65536 - n
 
 pub steps-spec : {M : Type 1} → statement M
 steps-spec =
@@ -16,9 +16,10 @@ steps-spec =
     (tie.spec
     Inv-loop
     μ-loop
-    (λ c. search needs)
     (λ c κs. search needs)
     (λ c. search needs)
+    (λ c. search needs)
+    (λ c κs. search needs)
     (λ c. search needs)
     (λ c. search needs)
     (λ c. search needs)

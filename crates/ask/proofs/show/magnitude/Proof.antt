@@ -8,7 +8,7 @@ use lib.Signed.{nonNeg}
 use mir.Syntax.{w64}
 use mir.Val.{Fits, SFits, toZ, ofZ}
 use mir.ValLaws.{toZ-ofZ}
-use Rattle.wire.proofs.Numbered.{below, above}
+use Rattle.wire.proofs.laws.Numbered.{below, above}
 use borrow.Author.Needs.{needs}
 use Rattle.ask.proofs.show.magnitude.Statement.{statement}
 use Rattle.ask.proofs.show.magnitude.Tie as tie

@@ -7,10 +7,10 @@ use Rattle.ask.proofs.show.row.Statement.{statement}
 use Rattle.ask.proofs.show.row.Tie as tie
 
 abbrev Inv-loop : tie.InvT-loop
-Inv-loop text₀ at src code count place₀ o₀ i₀ text place o i = length text ≡ length text₀
+Inv-loop text₀ at src code start count place₀ o₀ i₀ text place o i = length text ≡ length text₀
 
 abbrev μ-loop : tie.MeasureT-loop
-μ-loop text₀ at src code count place₀ o₀ i₀ text place o i = count - i
+μ-loop text₀ at src code start count place₀ o₀ i₀ text place o i = count - i
 
 pub row-spec : {M : Type 1} → statement M
 row-spec =
@@ -22,6 +22,7 @@ row-spec =
     (λ c κs. search needs)
     (λ c κs. search needs)
     (λ c. search needs)
+    (λ c κs. search needs)
     (λ c κs. search needs)
     (λ c. search needs)
     (λ c κs. search needs)

@@ -7,10 +7,10 @@ use Rattle.ask.proofs.show.units.Statement.{statement}
 use Rattle.ask.proofs.show.units.Tie as tie
 
 abbrev Inv-loop : tie.InvT-loop
-Inv-loop text₀ at src count place₀ o₀ i₀ text place o i = length text ≡ length text₀
+Inv-loop text₀ at src start count place₀ o₀ i₀ text place o i = length text ≡ length text₀
 
 abbrev μ-loop : tie.MeasureT-loop
-μ-loop text₀ at src count place₀ o₀ i₀ text place o i = count - i
+μ-loop text₀ at src start count place₀ o₀ i₀ text place o i = count - i
 
 pub units-spec : {M : Type 1} → statement M
 units-spec =

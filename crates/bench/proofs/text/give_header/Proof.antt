@@ -1,8 +1,8 @@
 -- `bench::text::give_header`: the header's row, or its refusal. Assumes nothing.
 use borrow.Author.Needs.{needs}
-use Rattle.layout.proofs.Reading.{heard}
+use Rattle.layout.proofs.laws.Reading.{heard}
 use Rattle.wire.specs.Container.{saysHeader}
-use Rattle.abi.proofs.Answers.{row-given, row-refused}
+use Rattle.abi.proofs.laws.Answers.{row-given, row-refused}
 use Rattle.bench.specs.Measured.{headerRow}
 use Rattle.bench.proofs.text.give_header.Statement.{statement}
 use Rattle.bench.proofs.text.give_header.Tie as tie

@@ -4,7 +4,7 @@ use native.Mathlib.Omega.{arith}
 use denote.Ref.{now}
 use lib.ListN.{length, take, drop, length-drop}
 use borrow.Author.Needs.{needs}
-use Rattle.layout.proofs.Writing.{in-room, out-of-room, nothing, take-least}
+use Rattle.layout.proofs.laws.Writing.{in-room, out-of-room, nothing, take-least}
 use Rattle.layout.proofs.write.copy.Statement.{statement}
 use Rattle.layout.proofs.write.copy.Tie as tie
 

@@ -3,7 +3,7 @@ use mathlib.Core.Path.{_≡_, refl}
 use Prim.Native.Nat.{_≤_, _+_, _-_}
 use native.Mathlib.Omega.{arith}
 use lib.ListN.{length, take, drop}
-use Rattle.layout.proofs.Writing.{Owes, start, byte, end, take-step, take-none}
+use Rattle.layout.proofs.laws.Writing.{Owes, start, byte, end, take-step, take-none}
 use Rattle.layout.proofs.write.copy_all.Statement.{statement}
 use Rattle.layout.proofs.write.copy_all.Tie as tie
 

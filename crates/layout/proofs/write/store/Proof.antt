@@ -3,8 +3,8 @@ use native.Mathlib.Omega.{arith}
 use denote.Ref.{now}
 use borrow.Author.Needs.{needs}
 use Rattle.layout.specs.Bytes.{bytes}
-use Rattle.layout.proofs.Numbers.{length-bytes}
-use Rattle.layout.proofs.Writing.{in-room, out-of-room, nothing}
+use Rattle.layout.proofs.laws.Numbers.{length-bytes}
+use Rattle.layout.proofs.laws.Writing.{in-room, out-of-room, nothing}
 use Rattle.layout.proofs.write.store.Statement.{statement}
 use Rattle.layout.proofs.write.store.Tie as tie
 

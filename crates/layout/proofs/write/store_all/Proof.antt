@@ -3,7 +3,7 @@ use mathlib.Core.Path.{_≡_, refl}
 use Prim.Native.Nat.{_+_, _≤_}
 use native.Mathlib.Omega.{arith}
 use Rattle.layout.specs.Bytes.{bytes}
-use Rattle.layout.proofs.Writing.{Owes, start, byte, end, bytes-step, bytes-none}
+use Rattle.layout.proofs.laws.Writing.{Owes, start, byte, end, bytes-step, bytes-none}
 use Rattle.layout.proofs.write.store_all.Statement.{statement}
 use Rattle.layout.proofs.write.store_all.Tie as tie
 

@@ -1,6 +1,6 @@
 -- `listing::line::name_of`: by the kind, the place in one table, or none. Assumes nothing.
 use borrow.Author.Tests.{eq-eqb, ne-eqb}
-use Rattle.names.proofs.Spells.{response-spells, command-spells}
+use Rattle.names.proofs.laws.Spells.{response-spells, command-spells}
 use Rattle.listing.specs.Lines.{nameFor}
 use borrow.Author.Needs.{needs}
 use Rattle.listing.proofs.line.name_of.Statement.{statement}

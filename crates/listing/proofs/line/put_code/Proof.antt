@@ -2,8 +2,8 @@
 use mathlib.Core.Path.{_≡_}
 use mathlib.Core.Option.{some, none}
 use lib.ListN.{take, drop}
-use Rattle.layout.proofs.Reading.{heard}
-use Rattle.layout.proofs.Stored.{first}
+use Rattle.layout.proofs.laws.Reading.{heard}
+use Rattle.layout.proofs.laws.Stored.{first}
 use Rattle.names.specs.Names.{nameBytes, given}
 use Rattle.names.specs.Says.{saysName, bytesAt}
 use Rattle.listing.specs.Lines.{nameFor}

@@ -2,8 +2,8 @@
 use native.Mathlib.Omega.{arith}
 use lib.ListN.{length, length-append}
 use mathlib.Core.List.{_++_}
-use Rattle.layout.proofs.Stored.{room-left}
-use Rattle.layout.proofs.Writing.{then}
+use Rattle.layout.proofs.laws.Stored.{room-left}
+use Rattle.layout.proofs.laws.Writing.{then}
 use Rattle.listing.specs.Lines.{decimal, wayText, kindText, codeText, countsText, containerLine}
 use Rattle.listing.proofs.Pieces.{row3, container-parts}
 use borrow.Author.Needs.{needs}
@@ -17,7 +17,7 @@ put-code-requires c κs =
     let h = container-parts (a .place) (a .kind) (a .x) in (
       k .pre .0,
       room-left
-          (row3 (decimal (a .place)) (wayText (a .kind)) (kindText (a .x .kind)) (omega (arith, k .pre .1)) (c .before .before .before .before .before .before .before .before .before .before .before .put-decimal .ensures) (c .before .before .before .before .before .before .before .put-way .ensures) (c .before .before .before .put-kind .ensures))
+          (row3 (decimal (a .place)) (wayText (a .kind)) (kindText (a .x .kind)) (omega (arith, k .pre .1)) (c .before .before .before .before .before .before .before .before .before .before .before .put .ensures) (c .before .before .before .before .before .before .before .put-way .ensures) (c .before .before .before .put-kind .ensures))
           (length (codeText (a .x .kind) (a .x .code))) (omega (arith, k .pre .1)),
     )
 
@@ -29,7 +29,7 @@ put-counts-requires c κs =
     let l = length-append (decimal (a .place) ++ wayText (a .kind) ++ kindText (a .x .kind)) (codeText (a .x .kind) (a .x .code)) in
     room-left
     (then
-    (row3 (decimal (a .place)) (wayText (a .kind)) (kindText (a .x .kind)) (omega (arith, k .pre .1)) (c .before .before .before .before .before .before .before .before .before .before .before .before .before .before .before .before .put-decimal .ensures) (c .before .before .before .before .before .before .before .before .before .before .before .before .put-way .ensures) (c .before .before .before .before .before .before .before .before .put-kind .ensures))
+    (row3 (decimal (a .place)) (wayText (a .kind)) (kindText (a .x .kind)) (omega (arith, k .pre .1)) (c .before .before .before .before .before .before .before .before .before .before .before .before .before .before .before .before .put .ensures) (c .before .before .before .before .before .before .before .before .before .before .before .before .put-way .ensures) (c .before .before .before .before .before .before .before .before .put-kind .ensures))
     (c .before .before .before .before .put-code .ensures))
     (length (countsText (a .x .number) (a .x .payload .count))) (omega (arith, k .pre .1))
 
@@ -41,7 +41,7 @@ returns c =
     let h = container-parts (a .place) (a .kind) (a .x) in
     then
     (then
-    (row3 (decimal (a .place)) (wayText (a .kind)) (kindText (a .x .kind)) (omega (arith, k .pre .1)) (c .before .before .before .before .before .before .before .before .before .before .before .before .before .before .before .before .before .before .before .put-decimal .ensures) (c .before .before .before .before .before .before .before .before .before .before .before .before .before .before .before .put-way .ensures) (c .before .before .before .before .before .before .before .before .before .before .before .put-kind .ensures))
+    (row3 (decimal (a .place)) (wayText (a .kind)) (kindText (a .x .kind)) (omega (arith, k .pre .1)) (c .before .before .before .before .before .before .before .before .before .before .before .before .before .before .before .before .before .before .before .put .ensures) (c .before .before .before .before .before .before .before .before .before .before .before .before .before .before .before .put-way .ensures) (c .before .before .before .before .before .before .before .before .before .before .before .put-kind .ensures))
     (c .before .before .before .before .before .before .before .put-code .ensures))
     (c .before .before .put-counts .ensures)
 

@@ -10,8 +10,8 @@ returns : tie.Need-returns
 unfolding countsText
 returns c =
     let k = c .before .before .before .before .before .before .before .before .before .before .before .before .before .before .before .before .before .before .before .before .before .before .before .before in
-    row5 (spelled " ") (decimal (k .args .number)) (spelled " ") (decimal (k .args .count)) (spelled "\n") (k .pre) (c .before .before .before .before .before .before .before .before .before .before .before .before .before .before .before .before .before .before .before .before .copy .ensures) (c .before .before .before .before .before .before .before .before .before .before .before .before .before .before .before .before .put-decimal .ensures)
-    (c .before .before .before .before .before .before .before .before .before .before .before .copy2 .ensures) (c .before .before .before .before .before .before .before .put-decimal2 .ensures) (c .before .before .copy3 .ensures)
+    row5 (spelled " ") (decimal (k .args .number)) (spelled " ") (decimal (k .args .count)) (spelled "\n") (k .pre) (c .before .before .before .before .before .before .before .before .before .before .before .before .before .before .before .before .before .before .before .before .copy .ensures) (c .before .before .before .before .before .before .before .before .before .before .before .before .before .before .before .before .put .ensures)
+    (c .before .before .before .before .before .before .before .before .before .before .before .copy2 .ensures) (c .before .before .before .before .before .before .before .put2 .ensures) (c .before .before .copy3 .ensures)
 
 pub put-counts-spec : {M : Type 1} → statement M
 put-counts-spec =

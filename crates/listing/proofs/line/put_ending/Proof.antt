@@ -14,7 +14,7 @@ returns c =
     ending-placed (k .fits .records .fits) (k .fits .count .fits)
     (row5 (spelled "records ") (decimal (k .args .records)) (spelled " bytes ") (decimal (k .args .count)) (spelled "\n")
     (ending-room (k .args .records) (k .args .count) _ (k .fits .records .fits) (k .fits .count .fits) (k .pre)) (c .before .before .before .before .before .before .before .before .before .before .before .before .before .before .before .before .before .before .before .before .copy .ensures)
-    (c .before .before .before .before .before .before .before .before .before .before .before .before .before .before .before .before .put-decimal .ensures) (c .before .before .before .before .before .before .before .before .before .before .before .copy2 .ensures) (c .before .before .before .before .before .before .before .put-decimal2 .ensures) (c .before .before .copy3 .ensures))
+    (c .before .before .before .before .before .before .before .before .before .before .before .before .before .before .before .before .put .ensures) (c .before .before .before .before .before .before .before .before .before .before .before .copy2 .ensures) (c .before .before .before .before .before .before .before .put2 .ensures) (c .before .before .copy3 .ensures))
 
 pub put-ending-spec : {M : Type 1} → statement M
 put-ending-spec =

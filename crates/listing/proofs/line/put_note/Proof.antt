@@ -10,8 +10,8 @@ returns : tie.Need-returns
 unfolding noteLine
 returns c =
     let k = c .before .before .before .before .before .before .before .before .before .before .before .before .before .before .before .before .before .before .before in
-    row4 (decimal (k .args .place)) (spelled " note ") (decimal (k .args .count)) (spelled "\n") (k .pre) (c .before .before .before .before .before .before .before .before .before .before .before .before .before .before .before .before .put-decimal .ensures) (c .before .before .before .before .before .before .before .before .before .before .before .copy .ensures)
-    (c .before .before .before .before .before .before .before .put-decimal2 .ensures) (c .before .before .copy2 .ensures)
+    row4 (decimal (k .args .place)) (spelled " note ") (decimal (k .args .count)) (spelled "\n") (k .pre) (c .before .before .before .before .before .before .before .before .before .before .before .before .before .before .before .before .put .ensures) (c .before .before .before .before .before .before .before .before .before .before .before .copy .ensures)
+    (c .before .before .before .before .before .before .before .put2 .ensures) (c .before .before .copy2 .ensures)
 
 pub put-note-spec : {M : Type 1} → statement M
 put-note-spec =

@@ -10,8 +10,8 @@ returns : tie.Need-returns
 unfolding refusalLine
 returns c =
     let k = c .before .before .before .before .before .before .before .before .before .before .before .before .before .before .before .before .before .before .before .before in
-    row4 (decimal (k .args .place)) (spelled " refusal ") (decimal (k .args .f .no)) (spelled "\n") (k .pre) (c .before .before .before .before .before .before .before .before .before .before .before .before .before .before .before .before .before .put-decimal .ensures) (c .before .before .before .before .before .before .before .before .before .before .before .before .copy .ensures)
-    (c .before .before .before .before .before .before .before .put-decimal2 .ensures) (c .before .before .copy2 .ensures)
+    row4 (decimal (k .args .place)) (spelled " refusal ") (decimal (k .args .f .no)) (spelled "\n") (k .pre) (c .before .before .before .before .before .before .before .before .before .before .before .before .before .before .before .before .before .put .ensures) (c .before .before .before .before .before .before .before .before .before .before .before .before .copy .ensures)
+    (c .before .before .before .before .before .before .before .put2 .ensures) (c .before .before .copy2 .ensures)
 
 pub put-refusal-spec : {M : Type 1} → statement M
 put-refusal-spec =

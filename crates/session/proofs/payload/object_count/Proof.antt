@@ -1,7 +1,7 @@
 -- `session::payload::object_count`: read, then the end asked for. Assumes nothing.
 use borrow.Author.Needs.{needs}
 use denote.Ref.{now}
-use Rattle.layout.proofs.Reading.{heard}
+use Rattle.layout.proofs.laws.Reading.{heard}
 use Rattle.wire.specs.Places.{numAt}
 use Rattle.wire.specs.Says.{saysU32, saysSpan}
 use Rattle.session.proofs.Filled.{filled, followed, unread}

@@ -1,7 +1,7 @@
 -- `session::payload::object_handles`: read, then the end asked for. Assumes nothing.
 use borrow.Author.Needs.{needs}
 use denote.Ref.{now}
-use Rattle.layout.proofs.Reading.{heard}
+use Rattle.layout.proofs.laws.Reading.{heard}
 use Rattle.wire.specs.Places.{arrayAt}
 use Rattle.wire.specs.Says.{saysPart, saysSpan}
 use Rattle.session.proofs.Filled.{filled, followed, unread}

@@ -1,9 +1,11 @@
 -- `session::payload::storage_info`: read, then the end asked for. Assumes nothing.
 use borrow.Author.Needs.{needs}
 use denote.Ref.{now}
-use Rattle.layout.proofs.Reading.{heard}
+use Rattle.layout.proofs.laws.Reading.{heard}
 use Rattle.wire.specs.Says.{saysSpan}
-use Rattle.wire.specs.Storage.{storageAt, saysStorage}
+use Rattle.wire.specs.Layout.{storage}
+use Rattle.wire.specs.Places.{rowAt}
+use Rattle.wire.specs.Storage.{saysStorage}
 use Rattle.session.proofs.Filled.{filled, followed, unread}
 use Rattle.session.proofs.payload.storage_info.Statement.{statement}
 use Rattle.session.proofs.payload.storage_info.Tie as tie
@@ -12,16 +14,16 @@ returns : tie.Need-returns
 returns c =
     let x = c .before .before .before .before .before in
     let s = now (x .before .before .before .before .args .s) in
-    filled storageAt s (heard saysStorage (x .x .given .1) (x .before .before .storage-info .ensures)) (heard saysSpan (c .before .end2 .given .1) (c .before .before .before .end .ensures))
+    filled (rowAt storage) s (heard saysStorage (x .x .given .1) (x .before .before .storage-info .ensures)) (heard saysSpan (c .before .end2 .given .1) (c .before .before .before .end .ensures))
 
 returns-2 : tie.Need-returns-2
 returns-2 c =
     let x = c .before .before .before .before .before in
     let s = now (x .before .before .before .before .args .s) in
-    followed storageAt s (heard saysStorage (x .x .given .1) (x .before .before .storage-info .ensures)) (heard saysSpan (c .before .f .given .1) (c .before .before .before .end .ensures))
+    followed (rowAt storage) s (heard saysStorage (x .x .given .1) (x .before .before .storage-info .ensures)) (heard saysSpan (c .before .f .given .1) (c .before .before .before .end .ensures))
 
 returns-3 : tie.Need-returns-3
-returns-3 c = unread storageAt (now (c .before .before .before .before .before .args .s)) (heard saysStorage (c .before .f2 .given .1) (c .before .before .before .storage-info .ensures))
+returns-3 c = unread (rowAt storage) (now (c .before .before .before .before .before .args .s)) (heard saysStorage (c .before .f2 .given .1) (c .before .before .before .storage-info .ensures))
 
 pub storage-info-spec : {M : Type 1} → statement M
 storage-info-spec =

@@ -5,7 +5,7 @@ use Prim.Native.Nat.{ℕ, _≤_, _-_}
 use native.Mathlib.Omega.{arith}
 use borrow.Author.Needs.{needs}
 use lib.ListN.{length}
-use Rattle.layout.proofs.Reading.{heard}
+use Rattle.layout.proofs.laws.Reading.{heard}
 use Rattle.wire.specs.Container.{saysContainer}
 use Rattle.session.specs.Search.{answerIn}
 use Rattle.session.proofs.Searched.{rest, nothing-left, refused-here, another's, answered, passed, further}

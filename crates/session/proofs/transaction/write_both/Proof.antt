@@ -3,8 +3,9 @@
 use native.Mathlib.Omega.{arith}
 use borrow.Author.Needs.{needs}
 use Rattle.wire.specs.Container.{commandSaid, containerSaid}
-use Rattle.wire.proofs.Sent.{command-size, container-size}
-use Rattle.session.proofs.Sending.{whole, start-of, first-refused, second-refused, both-written}
+use Rattle.wire.proofs.laws.Sent.{command-size, container-size}
+use Rattle.layout.proofs.laws.Did.{whole}
+use Rattle.session.proofs.Sending.{start-of, first-refused, second-refused, both-written}
 use Rattle.session.proofs.transaction.write_both.Statement.{statement}
 use Rattle.session.proofs.transaction.write_both.Tie as tie
 

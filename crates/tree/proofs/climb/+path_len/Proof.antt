@@ -7,7 +7,7 @@ use borrow.Fn.Kinds.{In}
 use borrow.Fn.PlainCycle.{Measures, is, falls, and}
 use denote.Ref.{now}
 use lib.ListN.{length}
-use Rattle.layout.proofs.Numbers.{bytes-of}
+use Rattle.layout.proofs.laws.Numbers.{bytes-of}
 use Rattle.tree.specs.Path.{pathOf}
 use Rattle.tree.proofs.Routes.{path-root, path-short, size-alone, size-joined}
 use Rattle.tree.proofs.climb.path_len.Reads as path-len

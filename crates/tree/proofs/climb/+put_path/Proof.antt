@@ -6,7 +6,7 @@ use borrow.Author.Needs.{needs}
 use borrow.Fn.Kinds.{In}
 use borrow.Fn.PlainCycle.{Measures, is, falls, and}
 use lib.ListN.{length, length-append}
-use Rattle.layout.proofs.Writing.{then, long}
+use Rattle.layout.proofs.laws.Writing.{then, long}
 use Rattle.tree.proofs.Routes.{path-root, path-step, size-step, then-slash}
 use Rattle.tree.proofs.climb.put_path.Reads as put-path
 use Rattle.tree.proofs.climb.put_path.Kinds as put-path-kinds

@@ -3,8 +3,8 @@ use mathlib.Core.Path.{sym, ap, _∙_}
 use native.Mathlib.Omega.{arith}
 use borrow.Author.Needs.{needs}
 use Rattle.layout.specs.Written.{no}
-use Rattle.layout.proofs.Reading.{heard}
-use Rattle.layout.proofs.Writing.{refusal, no-room, done}
+use Rattle.layout.proofs.laws.Reading.{heard}
+use Rattle.layout.proofs.laws.Writing.{refusal, no-room, done}
 use Rattle.tree.specs.Says.{saysChecked}
 use Rattle.tree.proofs.Tables.{accepted}
 use Rattle.tree.proofs.Routes.{said-table, said-absent, said-path}

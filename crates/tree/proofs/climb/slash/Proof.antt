@@ -5,7 +5,7 @@ use borrow.Author.Needs.{needs}
 use borrow.Author.Tests.{eq-eqb, ne-eqb}
 use denote.Ref.{now}
 use Rattle.layout.specs.Bytes.{bytes}
-use Rattle.layout.proofs.Writing.{in-room, nothing}
+use Rattle.layout.proofs.laws.Writing.{in-room, nothing}
 use Rattle.tree.proofs.climb.slash.Statement.{statement}
 use Rattle.tree.proofs.climb.slash.Tie as tie
 

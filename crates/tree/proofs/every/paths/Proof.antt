@@ -2,7 +2,7 @@
 use mathlib.Core.Path.{sym}
 use native.Mathlib.Omega.{arith}
 use borrow.Author.Needs.{needs}
-use Rattle.layout.proofs.Reading.{heard}
+use Rattle.layout.proofs.laws.Reading.{heard}
 use Rattle.tree.specs.Says.{saysChecked}
 use Rattle.tree.proofs.Tables.{accepted}
 use Rattle.tree.proofs.Trails.{listing, front, all-refused, all-no-ends, all-no-room, all-done}

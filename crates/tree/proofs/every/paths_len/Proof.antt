@@ -4,7 +4,7 @@ use Prim.Native.Nat.{_+_, _-_, _≤_}
 use native.Mathlib.Omega.{arith}
 use borrow.Author.Needs.{needs}
 use lib.ListN.{length, drop, length-append}
-use Rattle.layout.proofs.Numbers.{bytes-of}
+use Rattle.layout.proofs.laws.Numbers.{bytes-of}
 use Rattle.tree.specs.Path.{joined}
 use Rattle.tree.proofs.Counts.{every-get}
 use Rattle.tree.proofs.Trails.{joined-step, joined-none, joined-short}

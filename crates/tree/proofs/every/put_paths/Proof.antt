@@ -4,8 +4,8 @@ use Prim.Native.Nat.{_-_, _≤_}
 use native.Mathlib.Omega.{arith}
 use borrow.Author.Needs.{needs}
 use lib.ListN.{length, drop, length-append}
-use Rattle.layout.proofs.Numbers.{bytes-of}
-use Rattle.layout.proofs.Writing.{Owes, start, byte, part, end}
+use Rattle.layout.proofs.laws.Numbers.{bytes-of}
+use Rattle.layout.proofs.laws.Writing.{Owes, start, byte, part, end}
 use Rattle.tree.specs.Path.{joined, endsFrom}
 use Rattle.tree.proofs.Counts.{every-get}
 use Rattle.tree.proofs.Trails.{joined-step, joined-none, ends-step, ends-none, joined-short}

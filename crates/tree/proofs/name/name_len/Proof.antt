@@ -1,7 +1,7 @@
 -- `tree::name::name_len`: the part that is lent is the name. Assumes nothing.
 use native.Mathlib.Omega.{arith}
 use borrow.Author.Needs.{needs}
-use Rattle.layout.proofs.Reading.{heard}
+use Rattle.layout.proofs.laws.Reading.{heard}
 use Rattle.wire.specs.Tidy.{saysMeasured}
 use Rattle.tree.proofs.Routes.{name-size, name-none}
 use Rattle.tree.proofs.name.name_len.Statement.{statement}

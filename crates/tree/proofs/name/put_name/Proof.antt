@@ -1,7 +1,7 @@
 -- `tree::name::put_name`: the part that is lent is the name, and it has room. Assumes nothing.
 use native.Mathlib.Omega.{arith}
 use borrow.Author.Needs.{needs}
-use Rattle.layout.proofs.Writing.{roomy}
+use Rattle.layout.proofs.laws.Writing.{roomy}
 use Rattle.tree.specs.Path.{nameOf}
 use Rattle.tree.proofs.Routes.{name-is}
 use Rattle.tree.proofs.name.put_name.Statement.{statement}

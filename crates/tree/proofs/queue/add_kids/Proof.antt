@@ -6,7 +6,7 @@ use native.Mathlib.Omega.{arith}
 use borrow.Author.Needs.{needs}
 use borrow.Author.Tests.{lt-ltb}
 use lib.ListN.{length}
-use Rattle.layout.proofs.Writing.{Owes, start, byte, end, nothing}
+use Rattle.layout.proofs.laws.Writing.{Owes, start, byte, end, nothing}
 use Rattle.tree.specs.Kids.{kids}
 use Rattle.tree.specs.Way.{within}
 use Rattle.tree.proofs.Scans.{rest, rest-hit, rest-miss, none-left, rest-start, rest-none}

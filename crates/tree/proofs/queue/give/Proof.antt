@@ -4,8 +4,8 @@ use Prim.Native.Nat.{_-_}
 use native.Mathlib.Omega.{arith}
 use lib.ListN.{length}
 use borrow.Author.Needs.{needs}
-use Rattle.layout.proofs.Writing.{no-room}
-use Rattle.tree.proofs.Given.{Giving, begun, one-more, all-given}
+use Rattle.layout.proofs.laws.Writing.{no-room}
+use Rattle.tree.proofs.laws.Given.{Giving, begun, one-more, all-given}
 use Rattle.tree.proofs.queue.give.Statement.{statement}
 use Rattle.tree.proofs.queue.give.Tie as tie
 

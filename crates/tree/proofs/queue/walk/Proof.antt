@@ -1,7 +1,7 @@
 -- `tree::queue::walk`: an accepted table keeps the rule, and so has its walk. Assumes nothing.
 use mathlib.Core.Path.{refl, sym}
 use borrow.Author.Needs.{needs}
-use Rattle.layout.proofs.Reading.{heard}
+use Rattle.layout.proofs.laws.Reading.{heard}
 use Rattle.tree.specs.Says.{saysChecked, order, no-order}
 use Rattle.tree.proofs.Tables.{accepted}
 use Rattle.tree.proofs.queue.walk.Statement.{statement}

@@ -1,7 +1,7 @@
 -- `tree::queue::walk_into`: the table is accepted, and its walk, made apart, is given. Assumes nothing.
 use mathlib.Core.Path.{sym}
 use borrow.Author.Needs.{needs}
-use Rattle.layout.proofs.Reading.{heard}
+use Rattle.layout.proofs.laws.Reading.{heard}
 use Rattle.tree.specs.Says.{saysChecked}
 use Rattle.tree.proofs.Tables.{accepted}
 use Rattle.tree.proofs.Trails.{front, walk-refused, walk-given}

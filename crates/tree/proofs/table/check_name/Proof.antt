@@ -3,7 +3,7 @@ use mathlib.Core.Path.{ap}
 use borrow.Author.Needs.{needs}
 use borrow.Author.Tests.{eq-eqb, ne-eqb}
 use Rattle.layout.specs.Answer.{refused}
-use Rattle.layout.proofs.Reading.{heard, follow, stop}
+use Rattle.layout.proofs.laws.Reading.{heard, follow, stop}
 use Rattle.wire.specs.Says.{saysPart}
 use Rattle.tree.specs.Table.{nameAt}
 use Rattle.tree.proofs.table.check_name.Statement.{statement}

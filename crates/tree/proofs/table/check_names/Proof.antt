@@ -6,7 +6,7 @@ use borrow.Author.Needs.{needs}
 use native.Mathlib.Nat.{sub-zero}
 use native.Mathlib.Numerals.{add-one}
 use lib.ListN.{length}
-use Rattle.layout.proofs.Reading.{heard}
+use Rattle.layout.proofs.laws.Reading.{heard}
 use Rattle.tree.specs.Table.{startOf, namesFrom}
 use Rattle.tree.specs.Says.{saysChecked}
 use Rattle.tree.proofs.Tables.{names-stop, names-on, names-end}

@@ -4,7 +4,7 @@ use lib.Dec.{lit≤}
 use mir.Syntax.{w8, w64}
 use mir.ValLaws.{toZ-ofZ}
 use Rattle.layout.specs.Answer.{got}
-use Rattle.layout.proofs.Reading.{heard}
+use Rattle.layout.proofs.laws.Reading.{heard}
 use Rattle.wire.specs.Says.{saysI64, Signs}
 use Rattle.wire.proofs.Twos.{narrow, signed-fits, wider}
 use borrow.Author.Needs.{needs}

@@ -2,7 +2,7 @@
 use mathlib.Core.Path.{ap, _∙_}
 use denote.Ref.{now}
 use Rattle.layout.specs.Answer.{refused}
-use Rattle.layout.proofs.Reading.{heard}
+use Rattle.layout.proofs.laws.Reading.{heard}
 use Rattle.wire.specs.Places.{itemIn}
 use Rattle.wire.specs.Says.{saysShape}
 use borrow.Author.Needs.{needs}

@@ -5,13 +5,13 @@ use native.Mathlib.Omega.{arith}
 use borrow.Author.Needs.{needs}
 use borrow.Author.Tests.{leb-true, leb-false, not-true, not-false}
 use denote.Ref.{now}
-use Rattle.layout.proofs.Reading.{heard}
-use Rattle.layout.proofs.Writing.{in-room, out-of-room, nothing}
+use Rattle.layout.proofs.laws.Reading.{heard}
+use Rattle.layout.proofs.laws.Writing.{in-room, out-of-room, nothing}
 use Rattle.wire.specs.Places.{itemsIn}
 use Rattle.wire.specs.Says.{saysPart}
 use Rattle.wire.specs.Utf8.{utf8}
 use Rattle.wire.proofs.Spelled.{text-stood}
-use Rattle.wire.proofs.Points.{utf8-got, utf8-refused}
+use Rattle.wire.proofs.laws.Points.{utf8-got, utf8-refused}
 use Rattle.wire.proofs.Cursor.put_utf8.Statement.{statement}
 use Rattle.wire.proofs.Cursor.put_utf8.Tie as tie
 

@@ -4,7 +4,7 @@ use native.Mathlib.Omega.{arith}
 use denote.Ref.{now}
 use borrow.Author.Tests.{lt-ltb, le-ltb}
 use Rattle.layout.specs.Answer.{refused}
-use Rattle.layout.proofs.Reading.{heard, follow, stop}
+use Rattle.layout.proofs.laws.Reading.{heard, follow, stop}
 use Rattle.wire.specs.Places.{unitAt}
 use Rattle.wire.specs.Says.{saysPart}
 use Rattle.wire.proofs.Spelled.{text-stood}

@@ -6,13 +6,13 @@ use borrow.Author.Tests.{leb-true, leb-false, not-true, not-false}
 use denote.Ref.{now}
 use lib.ListN.{length}
 use Rattle.layout.specs.Written.{saidOf}
-use Rattle.layout.proofs.Reading.{heard}
-use Rattle.layout.proofs.Writing.{refusal, no-room, done}
+use Rattle.layout.proofs.laws.Reading.{heard}
+use Rattle.layout.proofs.laws.Writing.{refusal, no-room, done}
 use Rattle.wire.specs.Places.{itemsIn}
 use Rattle.wire.specs.Says.{saysPart}
 use Rattle.wire.specs.Utf8.{utf8}
 use Rattle.wire.proofs.Spelled.{text-stood}
-use Rattle.wire.proofs.Points.{utf8-got, utf8-refused}
+use Rattle.wire.proofs.laws.Points.{utf8-got, utf8-refused}
 use Rattle.wire.proofs.Cursor.utf8.Statement.{statement}
 use Rattle.wire.proofs.Cursor.utf8.Tie as tie
 

@@ -4,10 +4,10 @@ use Prim.Native.Nat.{ℕ}
 use borrow.Author.Needs.{needs}
 use denote.Ref.{now}
 use Rattle.layout.specs.Answer.{got, means}
-use Rattle.layout.proofs.Reading.{heard}
+use Rattle.layout.proofs.laws.Reading.{heard}
 use Rattle.wire.specs.Says.{saysPart}
 use Rattle.wire.proofs.Spelled.{text-stood}
-use Rattle.wire.proofs.Points.{utf8-got, utf8-refused}
+use Rattle.wire.proofs.laws.Points.{utf8-got, utf8-refused}
 use Rattle.wire.proofs.Cursor.utf8_len.Statement.{statement}
 use Rattle.wire.proofs.Cursor.utf8_len.Tie as tie
 

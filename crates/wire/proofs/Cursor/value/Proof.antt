@@ -1,7 +1,7 @@
 -- `wire::Cursor::value`: by the shape of its code, each arm as its own reader says. Assumes nothing.
 use mathlib.Core.Path.{ap, _∙_}
 use denote.Ref.{now}
-use Rattle.layout.proofs.Reading.{heard, meant, not-meant}
+use Rattle.layout.proofs.laws.Reading.{heard, meant, not-meant}
 use Rattle.wire.specs.Places.{items, units, shapeAt}
 use Rattle.wire.specs.Says.{saysPart, saysShape}
 use borrow.Author.Needs.{needs}

@@ -7,11 +7,11 @@ use denote.Ref.{now}
 use lib.ListN.{getD}
 use Rattle.layout.specs.Bytes.{bytes}
 use Rattle.layout.specs.Written.{Put}
-use Rattle.layout.proofs.Numbers.{length-bytes}
-use Rattle.layout.proofs.Stored.{more}
-use Rattle.layout.proofs.Writing.{nothing, long}
+use Rattle.layout.proofs.laws.Numbers.{length-bytes}
+use Rattle.layout.proofs.laws.Stored.{more}
+use Rattle.layout.proofs.laws.Writing.{nothing, long}
 use Rattle.wire.specs.Container.{paramBytes}
-use Rattle.wire.proofs.Contained.{params-step, params-long}
+use Rattle.wire.proofs.laws.Contained.{params-step, params-long}
 use Rattle.wire.proofs.container.put_params.Statement.{statement}
 use Rattle.wire.proofs.container.put_params.Tie as tie
 

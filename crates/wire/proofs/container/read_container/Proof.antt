@@ -4,10 +4,10 @@ use borrow.Author.Tests.{le-leb, lt-leb}
 use denote.Ref.{now}
 use lib.ListN.{length}
 use Prim.Native.Nat.{_-_}
-use Rattle.layout.proofs.Reading.{heard, follow, stop, span-within}
+use Rattle.layout.proofs.laws.Reading.{heard, follow, stop, span-within}
 use Rattle.wire.specs.Container.{containerAt, saysHeader}
 use Rattle.wire.specs.Says.{saysSpan}
-use Rattle.wire.proofs.Contained.{span-past}
+use Rattle.wire.proofs.laws.Contained.{span-past}
 use Rattle.wire.proofs.container.read_container.Statement.{statement}
 use Rattle.wire.proofs.container.read_container.Tie as tie
 

@@ -5,7 +5,7 @@ use Prim.Native.Nat.{_+_}
 use denote.Ref.{now}
 use borrow.Author.Tests.{not-true, not-false}
 use borrow.Author.Needs.{needs}
-use Rattle.layout.proofs.Reading.{heard, follow, span-within, field-got, two-there, two-cut}
+use Rattle.layout.proofs.laws.Reading.{heard, follow, span-within, field-got, two-there, two-cut}
 use Rattle.wire.specs.Container.{headerAt}
 use Rattle.wire.specs.Says.{saysSpan}
 use Rattle.wire.proofs.container.read_header.Statement.{statement}

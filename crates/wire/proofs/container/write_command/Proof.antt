@@ -3,9 +3,9 @@ use mathlib.Core.Path.{sym}
 use native.Mathlib.Omega.{arith}
 use borrow.Author.Needs.{needs}
 use lib.Seq.{length-take-le}
-use Rattle.layout.proofs.Stored.{put-whole}
-use Rattle.layout.proofs.Writing.{refusal, long}
-use Rattle.wire.proofs.Contained.{params-long, said-count, said-command}
+use Rattle.layout.proofs.laws.Stored.{put-whole}
+use Rattle.layout.proofs.laws.Writing.{refusal, long}
+use Rattle.wire.proofs.laws.Contained.{params-long, said-count, said-command}
 use Rattle.wire.proofs.container.write_command.Statement.{statement}
 use Rattle.wire.proofs.container.write_command.Tie as tie
 

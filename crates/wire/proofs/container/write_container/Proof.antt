@@ -4,8 +4,8 @@ use native.Mathlib.Omega.{arith}
 use borrow.Author.Needs.{needs}
 use borrow.Author.Tests.{not-true, not-false}
 use denote.Ref.{now}
-use Rattle.layout.proofs.Writing.{refusal, no-room, done}
-use Rattle.wire.proofs.Contained.{container-length, container-put, said-4, said-10, said-bytes}
+use Rattle.layout.proofs.laws.Writing.{refusal, no-room, done}
+use Rattle.wire.proofs.laws.Contained.{container-length, container-put, said-4, said-10, said-bytes}
 use Rattle.wire.proofs.container.write_container.Statement.{statement}
 use Rattle.wire.proofs.container.write_container.Tie as tie
 

@@ -2,7 +2,7 @@
 use mathlib.Core.Path.{subst, ap, _∙_}
 use Prim.Native.Nat.{_^_}
 use Rattle.layout.specs.Answer.{got}
-use Rattle.layout.proofs.Reading.{heard, meant, not-meant}
+use Rattle.layout.proofs.laws.Reading.{heard, meant, not-meant}
 use Rattle.wire.specs.Layout.{signed}
 use Rattle.wire.specs.Says.{saysNumber, Small}
 use Rattle.wire.proofs.Twos.{signed-wide}

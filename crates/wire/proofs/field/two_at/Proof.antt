@@ -3,8 +3,8 @@ use mathlib.Core.Path.{sym, _∙_, ap}
 use native.Mathlib.Omega.{arith}
 use borrow.Author.Needs.{needs}
 use Rattle.layout.specs.Answer.{refused}
-use Rattle.layout.proofs.Make.{span-short, span-there}
-use Rattle.layout.proofs.Reading.{follow, stop}
+use Rattle.layout.proofs.laws.Make.{span-short, span-there}
+use Rattle.layout.proofs.laws.Reading.{follow, stop}
 use Rattle.wire.proofs.field.two_at.Statement.{statement}
 use Rattle.wire.proofs.field.two_at.Tie as tie
 

@@ -3,7 +3,7 @@ use mathlib.Core.Path.{_∙_, sym, ap, refl}
 use native.Mathlib.Omega.{arith}
 use denote.Ref.{now}
 use Rattle.layout.specs.Answer.{got}
-use Rattle.layout.proofs.Reading.{heard, span-within, field-got, field-refused, meant, not-meant}
+use Rattle.layout.proofs.laws.Reading.{heard, span-within, field-got, field-refused, meant, not-meant}
 use Rattle.wire.specs.Layout.{meaning, wide}
 use Rattle.wire.specs.Says.{saysSpan}
 use Rattle.wire.proofs.Twos.{halves}

@@ -9,7 +9,7 @@ use mir.ValLaws.{toZ-ofZ}
 use Rattle.layout.specs.Bytes.{bytes}
 use Rattle.wire.specs.Codecs.{unsigned}
 use Rattle.wire.specs.Given.{integerWord}
-use Rattle.wire.proofs.Numbered.{signed-word, unsigned-word}
+use Rattle.wire.proofs.laws.Numbered.{signed-word, unsigned-word}
 use Rattle.wire.proofs.Twos.{wider}
 use borrow.Author.Needs.{needs}
 use Rattle.wire.proofs.given.bits_of.Statement.{statement}

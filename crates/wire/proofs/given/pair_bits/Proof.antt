@@ -1,6 +1,6 @@
 -- `wire::given::pair_bits`: two halves of eight bytes each. Assumes nothing.
 use native.Mathlib.Omega.{arith}
-use Rattle.wire.proofs.Numbered.{pair-word}
+use Rattle.wire.proofs.laws.Numbered.{pair-word}
 use Rattle.wire.proofs.given.pair_bits.Statement.{statement}
 use Rattle.wire.proofs.given.pair_bits.Tie as tie
 

@@ -5,10 +5,10 @@ use native.Mathlib.Omega.{arith}
 use denote.Ref.{now}
 use lib.ListN.{length, length-append}
 use Rattle.layout.specs.Bytes.{bytes}
-use Rattle.layout.proofs.Numbers.{length-bytes}
-use Rattle.layout.proofs.Writing.{roomy, then, then-roomy, long}
+use Rattle.layout.proofs.laws.Numbers.{length-bytes}
+use Rattle.layout.proofs.laws.Writing.{roomy, then, then-roomy, long}
 use Rattle.wire.specs.Given.{unitsWord}
-use Rattle.wire.proofs.Numbered.{units-size, given-none, given-some, some-size}
+use Rattle.wire.proofs.laws.Numbered.{units-size, given-none, given-some, some-size}
 use borrow.Author.Needs.{needs}
 use Rattle.wire.proofs.given.put_text.Statement.{statement}
 use Rattle.wire.proofs.given.put_text.Tie as tie

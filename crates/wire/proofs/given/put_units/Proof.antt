@@ -5,10 +5,10 @@ use native.Mathlib.Omega.{arith}
 use denote.Ref.{now}
 use lib.ListN.{length, drop}
 use Rattle.layout.specs.Bytes.{bytes}
-use Rattle.layout.proofs.Numbers.{length-bytes}
-use Rattle.layout.proofs.Writing.{Owes, start, part, end, roomy}
+use Rattle.layout.proofs.laws.Numbers.{length-bytes}
+use Rattle.layout.proofs.laws.Writing.{Owes, start, part, end, roomy}
 use Rattle.wire.specs.Given.{unitsWord}
-use Rattle.wire.proofs.Numbered.{units-none, units-step}
+use Rattle.wire.proofs.laws.Numbered.{units-none, units-step}
 use borrow.Author.Needs.{needs}
 use Rattle.wire.proofs.given.put_units.Statement.{statement}
 use Rattle.wire.proofs.given.put_units.Tie as tie

@@ -9,7 +9,7 @@ use mir.Syntax.{w64}
 use mir.Val.{Fits, SFits, toZ, ofZ}
 use mir.ValLaws.{toZ-ofZ}
 use Rattle.wire.specs.Codecs.{unsigned}
-use Rattle.wire.proofs.Numbered.{below, above}
+use Rattle.wire.proofs.laws.Numbered.{below, above}
 use borrow.Author.Needs.{needs}
 use Rattle.wire.proofs.given.signed_bits.Statement.{statement}
 use Rattle.wire.proofs.given.signed_bits.Tie as tie

@@ -2,8 +2,8 @@
 use mathlib.Core.Path.{sym, ap, _∙_}
 use denote.Ref.{now}
 use Rattle.layout.specs.Written.{no}
-use Rattle.layout.proofs.Reading.{heard}
-use Rattle.layout.proofs.Writing.{refusal}
+use Rattle.layout.proofs.laws.Reading.{heard}
+use Rattle.layout.proofs.laws.Writing.{refusal}
 use Rattle.wire.specs.Given.{shapeSaid}
 use Rattle.wire.specs.Says.{saysShape}
 use borrow.Author.Needs.{needs}

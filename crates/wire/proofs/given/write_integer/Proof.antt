@@ -5,8 +5,8 @@ use native.Mathlib.Omega.{arith}
 use lib.ListN.{length, length-append}
 use Rattle.layout.specs.Bytes.{bytes}
 use Rattle.layout.specs.Written.{says}
-use Rattle.layout.proofs.Numbers.{length-bytes}
-use Rattle.layout.proofs.Writing.{no-room, done, roomy, then-roomy}
+use Rattle.layout.proofs.laws.Numbers.{length-bytes}
+use Rattle.layout.proofs.laws.Writing.{no-room, done, roomy, then-roomy}
 use Rattle.wire.specs.Given.{integerBits}
 use borrow.Author.Needs.{needs}
 use Rattle.wire.proofs.given.write_integer.Statement.{statement}

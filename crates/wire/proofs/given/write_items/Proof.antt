@@ -7,9 +7,9 @@ use lib.ListN.{length, length-append}
 use lib.Seq.{take-length}
 use Rattle.layout.specs.Bytes.{bytes}
 use Rattle.layout.specs.Written.{no}
-use Rattle.layout.proofs.Numbers.{bytes-of, length-bytes}
-use Rattle.layout.proofs.Writing.{refusal, no-room, done, roomy, then-roomy}
-use Rattle.wire.proofs.Numbered.{said-part, said-many, said-items}
+use Rattle.layout.proofs.laws.Numbers.{bytes-of, length-bytes}
+use Rattle.layout.proofs.laws.Writing.{refusal, no-room, done, roomy, then-roomy}
+use Rattle.wire.proofs.laws.Numbered.{said-part, said-many, said-items}
 use borrow.Author.Needs.{needs}
 use Rattle.wire.proofs.given.write_items.Statement.{statement}
 use Rattle.wire.proofs.given.write_items.Tie as tie

@@ -4,8 +4,8 @@ use native.Mathlib.Omega.{arith}
 use denote.Ref.{now}
 use borrow.Author.Tests.{not-true, not-false}
 use Rattle.layout.specs.Written.{no}
-use Rattle.layout.proofs.Writing.{refusal, no-room, done}
-use Rattle.wire.proofs.Numbered.{given-size, said-unpaired, said-long, said-text}
+use Rattle.layout.proofs.laws.Writing.{refusal, no-room, done}
+use Rattle.wire.proofs.laws.Numbered.{given-size, said-unpaired, said-long, said-text}
 use borrow.Author.Needs.{needs}
 use Rattle.wire.proofs.given.write_text.Statement.{statement}
 use Rattle.wire.proofs.given.write_text.Tie as tie

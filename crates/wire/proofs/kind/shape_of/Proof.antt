@@ -3,7 +3,7 @@ use mathlib.Core.Path.{ap, _∙_}
 use mathlib.Core.Option.{none}
 use lib.ListN.{getD}
 use borrow.Author.Tests.{eq-eqb, ne-eqb}
-use Rattle.layout.proofs.Reading.{heard}
+use Rattle.layout.proofs.laws.Reading.{heard}
 use Rattle.wire.specs.Layout.{kinds}
 use Rattle.wire.specs.Says.{saysKnown}
 use borrow.Author.Needs.{needs}

@@ -3,7 +3,7 @@ use mathlib.Core.Path.{_≡_}
 use Prim.Native.Nat.{_+_, _-_}
 use native.Mathlib.Omega.{arith}
 use denote.Ref.{now}
-use Rattle.layout.proofs.Numbers.{bytes-of}
+use Rattle.layout.proofs.laws.Numbers.{bytes-of}
 use Rattle.wire.proofs.Newest.{chosen-within}
 use borrow.Author.Needs.{needs}
 use Rattle.wire.proofs.later.newer.Statement.{statement}

@@ -1,7 +1,7 @@
 -- `wire::later::newer_place`: refused, the payload, or the current value. Assumes nothing.
 use mathlib.Core.Path.{ap, sym, _∙_}
 use denote.Ref.{now}
-use Rattle.layout.proofs.Reading.{heard}
+use Rattle.layout.proofs.laws.Reading.{heard}
 use Rattle.wire.specs.Newer.{newerFrom}
 use Rattle.wire.specs.Property.{saysProperty}
 use borrow.Author.Needs.{needs}

@@ -1,5 +1,5 @@
 -- `wire::list::nth`: the description is read, then by its form. Assumes nothing.
-use Rattle.layout.proofs.Reading.{heard, follow, stop}
+use Rattle.layout.proofs.laws.Reading.{heard, follow, stop}
 use Rattle.wire.specs.List.{nthAt}
 use Rattle.wire.specs.Property.{saysProperty}
 use borrow.Author.Needs.{needs}

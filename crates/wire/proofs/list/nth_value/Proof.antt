@@ -1,9 +1,9 @@
 -- `wire::list::nth_value`: past n values, then the value there. Assumes nothing.
 use denote.Ref.{now}
-use Rattle.layout.proofs.Reading.{heard, follow, stop}
+use Rattle.layout.proofs.laws.Reading.{heard, follow, stop}
 use Rattle.wire.specs.List.{nthValue}
-use Rattle.wire.specs.Tidy.{saysMeasured}
-use Rattle.wire.proofs.Described.{values-got, values-refused}
+use Rattle.wire.specs.Says.{saysSpan}
+use Rattle.wire.proofs.Passed.{values-got, values-refused}
 use borrow.Author.Needs.{needs}
 use Rattle.wire.proofs.list.nth_value.Statement.{statement}
 use Rattle.wire.proofs.list.nth_value.Tie as tie
@@ -12,13 +12,13 @@ returns : tie.Need-returns
 unfolding nthValue
 returns c =
     let a = c .before .before .before .before .before .before .args in
-    follow _ (values-got (a .code) (a .n) (now (a .s)) (a .start) _ _ (heard saysMeasured (c .before .before .next .given .1) (c .before .before .before .before .measure-values .ensures))) (c .value-slot .ensures)
+    follow _ (values-got (a .code) (now (a .s)) (a .n) (a .start) _ (heard saysSpan (c .before .before .next .given .1) (c .before .before .before .before .past-values .ensures))) (c .value-slot .ensures)
 
 returns-2 : tie.Need-returns-2
 unfolding nthValue
 returns-2 c =
     let a = c .before .before .before .before .before .args in
-    stop _ (values-refused (a .code) (a .n) (now (a .s)) (a .start) _ (heard saysMeasured (c .before .f .given .1) (c .before .before .before .measure-values .ensures)))
+    stop _ (values-refused (a .code) (now (a .s)) (a .n) (a .start) _ (heard saysSpan (c .before .f .given .1) (c .before .before .before .past-values .ensures)))
 
 pub nth-value-spec : {M : Type 1} → statement M
 nth-value-spec =

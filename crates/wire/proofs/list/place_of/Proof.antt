@@ -1,6 +1,6 @@
 -- `wire::list::place_of`: the description is read, then by its form. Assumes nothing.
 use mathlib.Core.Path.{ap, _∙_}
-use Rattle.layout.proofs.Reading.{heard}
+use Rattle.layout.proofs.laws.Reading.{heard}
 use Rattle.wire.specs.List.{placeFrom}
 use Rattle.wire.specs.Property.{saysProperty}
 use borrow.Author.Needs.{needs}

@@ -1,7 +1,7 @@
 -- `wire::list::step_at`: refused, none left, no whole value, or the next. Assumes nothing.
 use mathlib.Core.Path.{ap}
 use borrow.Author.Tests.{eq-eqb, ne-eqb}
-use Rattle.layout.proofs.Reading.{heard}
+use Rattle.layout.proofs.laws.Reading.{heard}
 use Rattle.wire.specs.List.{stepAt, stepped}
 use Rattle.wire.specs.Says.{saysValue}
 use borrow.Author.Needs.{needs}

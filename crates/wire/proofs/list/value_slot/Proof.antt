@@ -1,7 +1,7 @@
 -- `wire::list::value_slot`: the value that is read, with its bytes. Assumes nothing.
 use mathlib.Core.Path.{refl}
 use denote.Ref.{now}
-use Rattle.layout.proofs.Reading.{heard, follow, stop}
+use Rattle.layout.proofs.laws.Reading.{heard, follow, stop}
 use Rattle.wire.specs.List.{valueSlot}
 use Rattle.wire.specs.Says.{saysValue}
 use Rattle.wire.proofs.Described.{located-from}

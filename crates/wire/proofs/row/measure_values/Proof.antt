@@ -1,8 +1,8 @@
 -- `wire::row::measure_values`: by the type's shape; numbers are one span. Assumes nothing.
 use mathlib.Core.Path.{_∙_}
 use denote.Ref.{now}
-use Rattle.layout.proofs.Numbers.{bytes-of}
-use Rattle.layout.proofs.Reading.{heard}
+use Rattle.layout.proofs.laws.Numbers.{bytes-of}
+use Rattle.layout.proofs.laws.Reading.{heard}
 use Rattle.wire.specs.Says.{saysKind, saysShape}
 use Rattle.wire.proofs.NumberRows.{number-values, undef-values}
 use borrow.Author.Needs.{needs}

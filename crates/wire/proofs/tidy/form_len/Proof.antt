@@ -4,6 +4,7 @@ use native.Mathlib.Omega.{arith}
 use denote.Ref.{now}
 use lib.ListN.{length}
 use Rattle.layout.specs.Bytes.{bytes}
+use Rattle.wire.specs.Property.{saysForm}
 use Rattle.wire.specs.TidyProperty.{formWord}
 use Rattle.wire.proofs.TidyWords.{range-size, list-size}
 use borrow.Author.Needs.{needs}
@@ -16,7 +17,7 @@ add-result-2 c =
     let k = c .before .before .before .before .before .before .before in
     let f = c .before .before .before .before .f .given .0 in
     let z = range-size (k .args .code) (now (k .args .src)) (f .0 .start) (f .1 .0 .start) (f .1 .1 .0 .start) in
-    let l = rw (c .before .before .before .before .f .given .1) at (k .pre) in
+    let l = rw (ap saysForm (c .before .before .before .before .f .given .1)) at (k .pre) in
     omega (arith, c .before .before .values-len .ensures .0, c .before .values-len2 .ensures .0, c .values-len3 .ensures .0)
 
 add-result-3 : tie.Need-add-result-3
@@ -25,14 +26,14 @@ add-result-3 c =
     let k = c .before .before .before .before .before .before .before in
     let f = c .before .before .before .before .f .given .0 in
     let z = range-size (k .args .code) (now (k .args .src)) (f .0 .start) (f .1 .0 .start) (f .1 .1 .0 .start) in
-    let l = rw (c .before .before .before .before .f .given .1) at (k .pre) in
+    let l = rw (ap saysForm (c .before .before .before .before .f .given .1)) at (k .pre) in
     omega (arith, c .before .before .values-len .ensures .0, c .before .values-len2 .ensures .0, c .values-len3 .ensures .0)
 
 returns : tie.Need-returns
 unfolding formWord bytes
 returns c =
     let a = c .before .before .before .args in
-    ap (λ f. length (formWord (a .code) (now (a .src)) f)) (sym (c .enum-told .given .1))
+    ap (λ f. length (formWord (a .code) (now (a .src)) (saysForm f))) (sym (c .enum-told .given .1))
 
 returns-2 : tie.Need-returns-2
 unfolding formWord
@@ -40,8 +41,8 @@ returns-2 c =
     let k = c .before .before .before .before .before .before .before in
     let f = c .before .before .before .before .f .given .0 in
     let z = range-size (k .args .code) (now (k .args .src)) (f .0 .start) (f .1 .0 .start) (f .1 .1 .0 .start) in
-    let l = rw (c .before .before .before .before .f .given .1) at (k .pre) in
-    omega (arith, c .before .before .values-len .ensures .0, c .before .values-len2 .ensures .0, c .values-len3 .ensures .0) ∙ ap (λ g. length (formWord (k .args .code) (now (k .args .src)) g)) (sym (c .before .before .before .before .f .given .1))
+    let l = rw (ap saysForm (c .before .before .before .before .f .given .1)) at (k .pre) in
+    omega (arith, c .before .before .values-len .ensures .0, c .before .values-len2 .ensures .0, c .values-len3 .ensures .0) ∙ ap (λ g. length (formWord (k .args .code) (now (k .args .src)) (saysForm g))) (sym (c .before .before .before .before .f .given .1))
 
 returns-3 : tie.Need-returns-3
 unfolding formWord
@@ -49,7 +50,7 @@ returns-3 c =
     let a = c .before .before .before .before .before .args in
     let f = c .before .before .f2 .given .0 in
     let z = list-size (a .code) (now (a .src)) (f .0 .start) (f .1 .0) in
-    omega (arith, c .values-len4 .ensures .0) ∙ ap (λ g. length (formWord (a .code) (now (a .src)) g)) (sym (c .before .before .f2 .given .1))
+    omega (arith, c .values-len4 .ensures .0) ∙ ap (λ g. length (formWord (a .code) (now (a .src)) (saysForm g))) (sym (c .before .before .f2 .given .1))
 
 pub form-len-spec : {M : Type 1} → statement M
 form-len-spec =

@@ -3,6 +3,7 @@ use mathlib.Core.Path.{ap, sym, _∙_}
 use native.Mathlib.Omega.{arith}
 use denote.Ref.{now}
 use lib.ListN.{length}
+use Rattle.wire.specs.Property.{infoFrom}
 use Rattle.wire.proofs.TidyWords.{property-word, parts-size}
 use borrow.Author.Needs.{needs}
 use Rattle.wire.proofs.tidy.property_len.Statement.{statement}
@@ -11,36 +12,36 @@ use Rattle.wire.proofs.tidy.property_len.Tie as tie
 add-result : tie.Need-add-result
 add-result c =
     let k = c .before .before .before in
-    let w = property-word (now (k .args .src)) (k .args .p) (k .pre .0) in
-    let z = ap length w ∙ parts-size (now (k .args .src)) (k .args .p) in
+    let w = property-word (now (k .args .src)) (infoFrom (k .args .p)) in
+    let z = ap length w ∙ parts-size (now (k .args .src)) (infoFrom (k .args .p)) in
     omega (arith, c .before .values-len .ensures .0, c .values-len2 .ensures .0, k .pre .1)
 
 add-result-2 : tie.Need-add-result-2
 add-result-2 c =
     let k = c .before .before .before in
-    let w = property-word (now (k .args .src)) (k .args .p) (k .pre .0) in
-    let z = ap length w ∙ parts-size (now (k .args .src)) (k .args .p) in
+    let w = property-word (now (k .args .src)) (infoFrom (k .args .p)) in
+    let z = ap length w ∙ parts-size (now (k .args .src)) (infoFrom (k .args .p)) in
     omega (arith, c .before .values-len .ensures .0, c .values-len2 .ensures .0, k .pre .1)
 
 form-len-requires : tie.Need-form-len-requires
 form-len-requires c κs =
     let k = c .before .before .before in
-    let w = property-word (now (k .args .src)) (k .args .p) (k .pre .0) in
-    let z = ap length w ∙ parts-size (now (k .args .src)) (k .args .p) in
+    let w = property-word (now (k .args .src)) (infoFrom (k .args .p)) in
+    let z = ap length w ∙ parts-size (now (k .args .src)) (infoFrom (k .args .p)) in
     omega (arith, k .pre .1)
 
 add-result-3 : tie.Need-add-result-3
 add-result-3 c =
     let k = c .before .before .before .before in
-    let w = property-word (now (k .args .src)) (k .args .p) (k .pre .0) in
-    let z = ap length w ∙ parts-size (now (k .args .src)) (k .args .p) in
+    let w = property-word (now (k .args .src)) (infoFrom (k .args .p)) in
+    let z = ap length w ∙ parts-size (now (k .args .src)) (infoFrom (k .args .p)) in
     omega (arith, c .before .before .values-len .ensures .0, c .before .values-len2 .ensures .0, c .form-len .ensures, k .pre .1)
 
 returns : tie.Need-returns
 returns c =
     let k = c .before .before .before .before in
-    let w = property-word (now (k .args .src)) (k .args .p) (k .pre .0) in
-    let z = ap length w ∙ parts-size (now (k .args .src)) (k .args .p) in
+    let w = property-word (now (k .args .src)) (infoFrom (k .args .p)) in
+    let z = ap length w ∙ parts-size (now (k .args .src)) (infoFrom (k .args .p)) in
     omega (arith, c .before .before .values-len .ensures .0, c .before .values-len2 .ensures .0, c .form-len .ensures) ∙ sym z
 
 pub property-len-spec : {M : Type 1} → statement M

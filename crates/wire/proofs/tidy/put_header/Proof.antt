@@ -1,7 +1,7 @@
 -- `wire::tidy::put_header`: four writes in a row, six bytes in all. Assumes nothing.
 use native.Mathlib.Omega.{arith}
 use Rattle.layout.specs.Bytes.{bytes}
-use Rattle.layout.proofs.Writing.{roomy, then-roomy}
+use Rattle.layout.proofs.laws.Writing.{roomy, then-roomy}
 use Rattle.wire.specs.TidyProperty.{headerWord}
 use borrow.Author.Needs.{needs}
 use Rattle.wire.proofs.tidy.put_header.Statement.{statement}

@@ -3,8 +3,8 @@ use native.Mathlib.Omega.{arith}
 use denote.Ref.{now}
 use lib.ListN.{length-append}
 use Rattle.layout.specs.Bytes.{bytes}
-use Rattle.layout.proofs.Numbers.{length-bytes}
-use Rattle.layout.proofs.Writing.{then, then-roomy, roomy, long}
+use Rattle.layout.proofs.laws.Numbers.{length-bytes}
+use Rattle.layout.proofs.laws.Writing.{then, then-roomy, roomy, long}
 use Rattle.wire.specs.TidyProperty.{listWord}
 use Rattle.wire.proofs.TidyWords.{list-size}
 use borrow.Author.Needs.{needs}

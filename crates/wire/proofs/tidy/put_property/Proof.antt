@@ -3,7 +3,8 @@ use mathlib.Core.Path.{ap, _∙_}
 use native.Mathlib.Omega.{arith}
 use denote.Ref.{now}
 use lib.ListN.{length, length-append}
-use Rattle.layout.proofs.Writing.{then, long}
+use Rattle.layout.proofs.laws.Writing.{then, long}
+use Rattle.wire.specs.Property.{infoFrom}
 use Rattle.wire.proofs.TidyWords.{property-word, parts-size, header-size}
 use borrow.Author.Needs.{needs}
 use Rattle.wire.proofs.tidy.put_property.Statement.{statement}
@@ -12,9 +13,9 @@ use Rattle.wire.proofs.tidy.put_property.Tie as tie
 put-header-requires : tie.Need-put-header-requires
 put-header-requires c κs =
     let k = c .before .before .before in
-    let x = k .args .p in
+    let x = infoFrom (k .args .p) in
     let s = now (k .args .src) in
-    let w = property-word s x (k .pre .0) in
+    let w = property-word s x in
     let z = ap length w ∙ parts-size s x in
     let hd = header-size x in
     omega arith
@@ -22,9 +23,9 @@ put-header-requires c κs =
 put-values-requires : tie.Need-put-values-requires
 put-values-requires c κs =
     let k = c .before .before .before .before .before .before .before in
-    let x = k .args .p in
+    let x = infoFrom (k .args .p) in
     let s = now (k .args .src) in
-    let w = property-word s x (k .pre .0) in
+    let w = property-word s x in
     let z = ap length w ∙ parts-size s x in
     let hd = header-size x in
     let q = c .before .before .before .put-header .ensures in
@@ -33,9 +34,9 @@ put-values-requires c κs =
 put-values-requires-2 : tie.Need-put-values-requires-2
 put-values-requires-2 c κs =
     let k = c .before .before .before .before .before .before .before .before .before .before .before in
-    let x = k .args .p in
+    let x = infoFrom (k .args .p) in
     let s = now (k .args .src) in
-    let w = property-word s x (k .pre .0) in
+    let w = property-word s x in
     let z = ap length w ∙ parts-size s x in
     let hd = header-size x in
     let q = then (c .before .before .before .before .before .before .before .put-header .ensures) (c .before .before .before .put-values .ensures) in
@@ -44,9 +45,9 @@ put-values-requires-2 c κs =
 put-form-requires : tie.Need-put-form-requires
 put-form-requires c κs =
     let k = c .before .before .before .before .before .before .before .before .before .before .before .before .before .before .before in
-    let x = k .args .p in
+    let x = infoFrom (k .args .p) in
     let s = now (k .args .src) in
-    let w = property-word s x (k .pre .0) in
+    let w = property-word s x in
     let z = ap length w ∙ parts-size s x in
     let hd = header-size x in
     let q = then (then (c .before .before .before .before .before .before .before .before .before .before .before .put-header .ensures) (c .before .before .before .before .before .before .before .put-values .ensures)) (c .before .before .before .put-values2 .ensures) in
@@ -55,7 +56,7 @@ put-form-requires c κs =
 returns : tie.Need-returns
 returns c =
     let k = c .before .before .before .before .before .before .before .before .before .before .before .before .before .before .before .before .before .before in
-    rw (property-word (now (k .args .src)) (k .args .p) (k .pre .0))
+    rw (property-word (now (k .args .src)) (infoFrom (k .args .p)))
     (then (then (then (c .before .before .before .before .before .before .before .before .before .before .before .before .before .before .put-header .ensures) (c .before .before .before .before .before .before .before .before .before .before .put-values .ensures)) (c .before .before .before .before .before .before .put-values2 .ensures)) (c .before .before .put-form .ensures))
 
 pub put-property-spec : {M : Type 1} → statement M

@@ -3,8 +3,8 @@ use native.Mathlib.Omega.{arith}
 use denote.Ref.{now}
 use lib.ListN.{length-append}
 use Rattle.layout.specs.Bytes.{bytes}
-use Rattle.layout.proofs.Numbers.{length-bytes}
-use Rattle.layout.proofs.Writing.{then, roomy, long}
+use Rattle.layout.proofs.laws.Numbers.{length-bytes}
+use Rattle.layout.proofs.laws.Writing.{then, roomy, long}
 use Rattle.wire.specs.TidyProperty.{rangeWord, valuesWord}
 use Rattle.wire.proofs.TidyWords.{range-size}
 use borrow.Author.Needs.{needs}

@@ -1,9 +1,9 @@
 -- `wire::tidy::tidy_property`: read; refused, too long for the room, or put. Assumes nothing.
 use native.Mathlib.Omega.{arith}
 use denote.Ref.{now}
-use Rattle.layout.proofs.Numbers.{bytes-of}
-use Rattle.layout.proofs.Reading.{heard}
-use Rattle.layout.proofs.Writing.{refusal, no-room, done}
+use Rattle.layout.proofs.laws.Numbers.{bytes-of}
+use Rattle.layout.proofs.laws.Reading.{heard}
+use Rattle.layout.proofs.laws.Writing.{refusal, no-room, done}
 use Rattle.wire.specs.Property.{saysProperty}
 use Rattle.wire.proofs.TidyWords.{well-read, said-property, said-no-property, property-bound}
 use borrow.Author.Needs.{needs}

@@ -5,9 +5,9 @@ use native.Mathlib.Omega.{arith}
 use denote.Ref.{now}
 use lib.ListN.{length}
 use Rattle.layout.specs.Written.{spelling}
-use Rattle.layout.proofs.Numbers.{bytes-of}
-use Rattle.layout.proofs.Reading.{heard}
-use Rattle.layout.proofs.Tidied.{measured, unmeasured}
+use Rattle.layout.proofs.laws.Numbers.{bytes-of}
+use Rattle.layout.proofs.laws.Reading.{heard}
+use Rattle.layout.proofs.laws.Tidied.{measured, unmeasured}
 use Rattle.wire.specs.Tidy.{rowWord, types, saysMeasured}
 use Rattle.wire.proofs.TidyWords.{row-bound}
 use borrow.Author.Needs.{needs}

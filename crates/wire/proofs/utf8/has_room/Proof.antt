@@ -7,12 +7,12 @@ use denote.Ref.{now}
 use Prim.Native.Nat.{_-_}
 use lib.ListN.{length, drop}
 use Rattle.layout.specs.Bytes.{cells}
-use Rattle.layout.proofs.Reading.{heard, span-within}
+use Rattle.layout.proofs.laws.Reading.{heard, span-within}
 use Rattle.wire.specs.Says.{saysSpan}
 use Rattle.wire.specs.Utf8.{utf8}
 use Rattle.wire.proofs.Spelled.{length-cells}
-use Rattle.layout.proofs.Reading.{span-over}
-use Rattle.wire.proofs.Points.{utf8-few}
+use Rattle.layout.proofs.laws.Reading.{span-over}
+use Rattle.wire.proofs.laws.Points.{utf8-few}
 use Rattle.wire.proofs.utf8.has_room.Statement.{statement}
 use Rattle.wire.proofs.utf8.has_room.Tie as tie
 

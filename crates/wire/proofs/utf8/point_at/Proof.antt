@@ -1,6 +1,6 @@
 -- `wire::utf8::point_at`: a unit that is no high surrogate, a last one, or a pair. Assumes nothing.
 use borrow.Author.Needs.{needs}
-use Rattle.wire.proofs.Points.{alone, last, pair}
+use Rattle.wire.proofs.laws.Points.{alone, last, pair}
 use Rattle.wire.proofs.utf8.point_at.Statement.{statement}
 use Rattle.wire.proofs.utf8.point_at.Tie as tie
 

@@ -4,7 +4,7 @@ use Prim.Native.Nat.{_≤_, _<_, _+_, _*_}
 use native.Mathlib.Omega.{arith}
 use lib.ListN.{length, drop}
 use Rattle.layout.specs.Bytes.{cells}
-use Rattle.layout.proofs.Writing.{Owes, start, byte, end}
+use Rattle.layout.proofs.laws.Writing.{Owes, start, byte, end}
 use Rattle.wire.specs.Utf8.{NoneAbove}
 use Rattle.wire.proofs.Texts.{cells-none}
 use Rattle.wire.proofs.Small.{ascii-byte, ascii-cons, ascii-rest, ascii-utf8}

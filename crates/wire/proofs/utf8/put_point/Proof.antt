@@ -1,7 +1,7 @@
 -- `wire::utf8::put_point`: whichever store it is, it has the length and the number of the point's bytes. Assumes nothing.
 use native.Mathlib.Omega.{arith}
 use borrow.Author.Needs.{needs}
-use Rattle.wire.proofs.Points.{point-put}
+use Rattle.wire.proofs.laws.Points.{point-put}
 use Rattle.wire.proofs.utf8.put_point.Statement.{statement}
 use Rattle.wire.proofs.utf8.put_point.Tie as tie
 

@@ -5,9 +5,9 @@ use native.Mathlib.Omega.{arith}
 use borrow.Author.Needs.{needs}
 use lib.ListN.{length, drop, length-append}
 use Rattle.layout.specs.Bytes.{cells}
-use Rattle.layout.proofs.Writing.{Owes, start, part, end, roomy}
+use Rattle.layout.proofs.laws.Writing.{Owes, start, part, end, roomy}
 use Rattle.wire.specs.Utf8.{encoded, utf8}
-use Rattle.wire.proofs.Points.{utf8-step, utf8-none}
+use Rattle.wire.proofs.laws.Points.{utf8-step, utf8-none}
 use Rattle.wire.proofs.Small.{ascii-long}
 use Rattle.wire.proofs.utf8.put_units.Statement.{statement}
 use Rattle.wire.proofs.utf8.put_units.Tie as tie

@@ -6,7 +6,7 @@ use borrow.Author.Needs.{needs}
 use lib.ListN.{length, drop, length-append}
 use Rattle.layout.specs.Bytes.{cells}
 use Rattle.wire.specs.Utf8.{utf8}
-use Rattle.wire.proofs.Points.{utf8-step, utf8-none}
+use Rattle.wire.proofs.laws.Points.{utf8-step, utf8-none}
 use Rattle.wire.proofs.Small.{ascii-long}
 use Rattle.wire.proofs.utf8.units_len.Statement.{statement}
 use Rattle.wire.proofs.utf8.units_len.Tie as tie

@@ -1,7 +1,7 @@
 -- `wire::value::int_value`: what `int_at` reads, as a value. Assumes nothing.
 use mathlib.Core.Path.{_∙_}
 use denote.Ref.{now}
-use Rattle.layout.proofs.Reading.{heard, meant, not-meant, means-means}
+use Rattle.layout.proofs.laws.Reading.{heard, meant, not-meant, means-means}
 use Rattle.wire.specs.Layout.{int}
 use Rattle.wire.specs.Places.{numAt, number-is, shapeAt}
 use Rattle.wire.specs.Says.{saysI64, Signs}

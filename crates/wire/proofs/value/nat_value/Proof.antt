@@ -1,5 +1,5 @@
 -- `wire::value::nat_value`: what `num_at` reads, as a value. Assumes nothing.
-use Rattle.layout.proofs.Reading.{heard, meant, not-meant}
+use Rattle.layout.proofs.laws.Reading.{heard, meant, not-meant}
 use Rattle.wire.specs.Layout.{nat}
 use Rattle.wire.specs.Places.{number-is, shapeAt}
 use Rattle.wire.specs.Says.{saysNumber}

@@ -6,10 +6,10 @@ use native.Mathlib.Omega.{arith}
 use denote.Ref.{now}
 use borrow.Author.Tests.{lt-ltb, le-ltb}
 use Rattle.layout.specs.Answer.{refused}
-use Rattle.layout.proofs.Reading.{heard, follow, stop}
+use Rattle.layout.proofs.laws.Reading.{heard, follow, stop}
 use Rattle.wire.specs.Places.{itemOf}
 use Rattle.wire.specs.Says.{saysPart}
-use Rattle.wire.proofs.Agrees.{array-within}
+use Rattle.wire.proofs.Agrees.{array-ranged}
 use borrow.Author.Needs.{needs}
 use Rattle.wire.proofs.value.nth_item.Statement.{statement}
 use Rattle.wire.proofs.value.nth_item.Tie as tie
@@ -18,7 +18,7 @@ mul-number-value : tie.Need-mul-number-value
 mul-number-value c =
     let a = c .before .before .before .before .before .before .before .args in
     let p = c .before .before .p in
-    let h = array-within (c .before .before .before .before .before .width-of .result) (now (a .s)) (a .at) (p .given .0 .0) _ (heard saysPart (p .given .1) (c .before .before .before .before .array-at .ensures)) in
+    let h = array-ranged (c .before .before .before .before .before .width-of .result) (now (a .s)) (a .at) (p .given .0 .0) _ (heard saysPart (p .given .1) (c .before .before .before .before .array-at .ensures)) in
     let k : a .n * c .before .before .before .before .before .width-of .result ≤ p .given .0 .0 .count * c .before .before .before .before .before .width-of .result = mul-le-mul-right (c .before .before .before .before .before .width-of .result) (le-of-lt (c .if1 .taken)) in
     omega arith
 
@@ -26,7 +26,7 @@ add-number-value : tie.Need-add-number-value
 add-number-value c =
     let a = c .before .before .before .before .before .before .before .args in
     let p = c .before .before .p in
-    let h = array-within (c .before .before .before .before .before .width-of .result) (now (a .s)) (a .at) (p .given .0 .0) _ (heard saysPart (p .given .1) (c .before .before .before .before .array-at .ensures)) in
+    let h = array-ranged (c .before .before .before .before .before .width-of .result) (now (a .s)) (a .at) (p .given .0 .0) _ (heard saysPart (p .given .1) (c .before .before .before .before .array-at .ensures)) in
     let k : a .n * c .before .before .before .before .before .width-of .result ≤ p .given .0 .0 .count * c .before .before .before .before .before .width-of .result = mul-le-mul-right (c .before .before .before .before .before .width-of .result) (le-of-lt (c .if1 .taken)) in
     omega arith
 

@@ -1,6 +1,6 @@
 -- `wire::run::Run::items`: read where the run goes on, passed by where it has stopped. Assumes nothing.
 use mathlib.Core.Path.{_∙_}
-use Rattle.layout.proofs.Reading.{follow}
+use Rattle.layout.proofs.laws.Reading.{follow}
 use Rattle.wire.proofs.Runs.{ran-ok, passed}
 use borrow.Author.Needs.{needs}
 use Rattle.wire.proofs.run.Run.items.Statement.{statement}

@@ -2,7 +2,7 @@
 use mathlib.Core.Path.{subst}
 use native.Mathlib.Nat.{one-le-pow}
 use lib.Dec.{lit≤}
-use Rattle.layout.proofs.Reading.{heard}
+use Rattle.layout.proofs.laws.Reading.{heard}
 use Rattle.wire.specs.Says.{saysNumber, Small}
 use Rattle.wire.proofs.Runs.{read, broke, passed}
 use borrow.Author.Needs.{needs}

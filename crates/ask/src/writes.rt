@@ -1,0 +1,173 @@
+// The questions that write: words, bytes and lists in, the output filled and lent, pieces out.
+use crate::integer;
+use crate::integer::Given;
+use session::Made;
+use session::Session;
+use wire::Command;
+use wire::Cursor;
+use words::args::Args;
+use words::args::low16;
+use words::args::low32;
+use words::slice;
+use words::table;
+use words::told;
+use words::told::Told;
+
+fn made(m: Made) -> Told {
+    match m {
+        Made::Done {
+            number,
+            next,
+            count,
+        } => told::ok()
+            .number(number as u64)
+            .number(next.number as u64)
+            .number(count as u64),
+        Made::Refused(f) => told::refused(f),
+    }
+}
+
+fn number_at(list: &[u32], i: usize) -> u32 {
+    if i < list.len() {
+        return list[i];
+    }
+    0
+}
+
+// As many parameters as are given, of which only five have a place.
+fn command_of(a: Args, numbers: &[u32]) -> Command {
+    session::command_of(
+        low16(a.numbers[1]),
+        slice::part32(numbers, a.numbers[2], a.counts[2]),
+    )
+}
+
+fn state(x: usize) -> Session {
+    if x == 0 {
+        return session::fresh();
+    }
+    Session { number: low32(x) }
+}
+
+fn path(a: Args, src: &[u8], halves: &[u16], numbers: &[u32], page: &mut [u8]) -> Told {
+    told::written(tree::path(
+        slice::part32(numbers, a.numbers[0], a.counts[0]),
+        slice::part16(halves, a.counts[1]),
+        slice::part32(numbers, a.numbers[2], a.counts[2]),
+        src,
+        a.numbers[4],
+        page,
+    ))
+}
+
+fn write_value(a: Args, w: &[u8], page: &mut [u8]) -> Told {
+    match integer::integer_of(low16(a.numbers[0]), w) {
+        Given::Is(v) => told::written(wire::write_integer(v, page)),
+        Given::Wrong => told::unknown(),
+    }
+}
+
+// Each call and the letter of its arm.
+const CALLS: [u8; 140] = *b"\
+    GetDeviceInfo d;\
+    OpenSession o;\
+    CloseSession c;\
+    GetStorageIDs i;\
+    GetStorageInfo s;\
+    GetNumObjects n;\
+    GetObjectHandles h;\
+    GetObjectInfo O;\
+    GetObject g";
+
+// The handle of the roots and that of all have calls of their own.
+fn num_objects(storage: u32, filter: u32, handle: u32) -> Command {
+    if handle == 0xFFFF_FFFF {
+        return session::get_num_objects_roots(storage, filter);
+    }
+    if handle == 0 {
+        return session::get_num_objects_all(storage, filter);
+    }
+    session::get_num_objects(storage, filter, handle)
+}
+
+fn object_handles(storage: u32, filter: u32, handle: u32) -> Command {
+    if handle == 0xFFFF_FFFF {
+        return session::get_object_handles_root(storage, filter);
+    }
+    if handle == 0 {
+        return session::get_object_handles_all(storage, filter);
+    }
+    session::get_object_handles(storage, filter, handle)
+}
+
+// By the letter of the call's arm.
+fn called(arm: u8, storage: u32, filter: u32, handle: u32) -> Command {
+    match arm {
+        b'd' => session::get_device_info(),
+        b'o' => session::open_session(),
+        b'c' => session::close_session(),
+        b'i' => session::get_storage_ids(),
+        b's' => session::get_storage_info(storage),
+        b'n' => num_objects(storage, filter, handle),
+        b'h' => object_handles(storage, filter, handle),
+        b'O' => session::get_object_info(handle),
+        _ => session::get_object(handle),
+    }
+}
+
+fn call(a: Args, w: &[u8], page: &mut [u8]) -> Told {
+    let calls = CALLS;
+    let row = table::find(&calls, w);
+    if !row.ok {
+        return told::unknown();
+    }
+    let arm = slice::byte(&calls, row.start);
+    let c = called(
+        arm,
+        low32(a.numbers[2]),
+        low32(a.numbers[3]),
+        low32(a.numbers[4]),
+    );
+    made(session::command(state(a.numbers[1]), c, page))
+}
+
+// The writers that take bytes, and of the words at most three numbers.
+fn of_bytes(arm: u8, a: Args, src: &[u8], page: &mut [u8]) -> Told {
+    let n = low16(a.numbers[0]);
+    match arm {
+        b'u' => told::written((Cursor { at: a.numbers[0] }).utf8(src, page)),
+        b'a' => told::written(wire::write_array(n, src, page)),
+        b'V' => told::written(wire::tidy_value(n, src, page)),
+        b'D' => told::written(wire::tidy_device(src, page)),
+        b'O' => told::written(wire::tidy_object(src, page)),
+        b'S' => told::written(wire::tidy_storage(src, page)),
+        b'P' => told::written(wire::tidy_property(src, page)),
+        b'c' => told::written(wire::write_container(
+            n,
+            low16(a.numbers[1]),
+            low32(a.numbers[2]),
+            src,
+            page,
+        )),
+        b'r' => told::written(recording::write_record(n, src, page)),
+        _ => told::unknown(),
+    }
+}
+
+// By the letter of the question's arm.
+pub fn of(arm: u8, a: Args, src: &[u8], halves: &[u16], numbers: &[u32], page: &mut [u8]) -> Told {
+    match arm {
+        b'v' => write_value(a, src, page),
+        b'C' => call(a, src, page),
+        b's' => told::written(wire::write_text(slice::part16(halves, a.counts[0]), page)),
+        b'm' => made(session::command(state(a.numbers[0]), command_of(a, numbers), page)),
+        b'd' => made(session::command_with_data(
+            state(a.numbers[0]),
+            command_of(a, numbers),
+            src,
+            page,
+        )),
+        b'p' => path(a, src, halves, numbers, page),
+        _ => of_bytes(arm, a, src, page),
+    }
+}

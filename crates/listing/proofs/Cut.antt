@@ -1,0 +1,44 @@
+-- What waits is nothing, or a record that is cut; so a window has room for more after it, and a whole record waits for nothing.
+-- Assumes nothing.
+use mathlib.Core.Path.{_≡_, refl}
+use mathlib.Core.Bool.{Bool, true, false}
+use mathlib.Core.List.{List}
+use Prim.Native.Nat.{ℕ, _+_, _≤_, _<_}
+use native.Mathlib.Omega.{arith}
+use borrow.Author.Tests.{ltb-false, lt-ltb}
+use lib.Dec.{ltb}
+use lib.ListN.{length}
+use Rattle.layout.specs.Answer.{got, pick}
+use Rattle.layout.proofs.laws.Accepted.{accepted}
+use Rattle.layout.proofs.laws.Tidied.{zero-one}
+use Rattle.recording.specs.Content.{Record}
+use Rattle.recording.specs.Record.{limit, recordOf}
+use Rattle.recording.specs.Row.{isCut}
+use Rattle.recording.proofs.laws.Rowed.{record-stands, cut-short, whole-uncut}
+use Rattle.listing.specs.Window.{waits}
+
+-- what waits at the end of the input is nothing; elsewhere it is shorter than the longest record
+pub waits-last : (s : List ℕ) → waits true s ≡ true → length s ≤ 0
+unfolding waits
+waits-last s e = go (ltb 0 (length s)) refl e
+  where
+    go : (b : Bool) → ltb 0 (length s) ≡ b → pick b false true ≡ true → length s ≤ 0
+    go true h e = zero-one (cc)
+    go false h e = ltb-false 0 (length s) h
+
+pub waits-short : (s : List ℕ) → waits false s ≡ true → length s < 6 + limit
+unfolding waits
+waits-short s e = go (ltb 0 (length s)) refl e
+  where
+    go : (b : Bool) → ltb 0 (length s) ≡ b → pick b (isCut s) true ≡ true → length s < 6 + limit
+    go true h e = cut-short s e
+    go false h e = omega (arith, ltb-false 0 (length s) h)
+
+-- a whole record waits for nothing
+pub whole-ready : (last : Bool) (s : List ℕ) {x : Record} {n : ℕ} → got x n ≡ recordOf s → waits last s ≡ false
+unfolding waits
+whole-ready last s e = let p = accepted _ (record-stands s) e in rw (lt-ltb 0 (length s) (omega (arith, p .till, p .within)), whole-uncut s e) (go last)
+  where
+    go : (b : Bool) → pick b false false ≡ false
+    go true = refl
+    go false = refl

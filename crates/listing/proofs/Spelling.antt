@@ -1,0 +1,93 @@
+-- Digits written from the last to the first, and digits counted four at a time.
+-- Assumes nothing.
+use mathlib.Core.Path.{_≡_, refl, sym, ap, _∙_}
+use mathlib.Core.List.{List, [], _∷_, _++_, append-assoc, append-nil}
+use Prim.Native.Nat.{ℕ, zero, suc, _+_, _*_, _/_, _%_, _^_, _≤_, _<_}
+use native.Mathlib.Nat.{add-zero, add-suc, suc-add, mod-lt, pow-suc, pow-succ', one-le-pow, div-one, div-div-eq-div-mul}
+use native.Mathlib.Omega.{arith}
+use borrow.Author.Tests.{lt-ltb}
+use lib.Arith.{digits-div, digits-mod, mod-mul}
+use lib.Dec.{lit<}
+use lib.ListN.{length, set}
+use lib.Seq.{sets, set-comm}
+use Rattle.io.specs.Digits.{digits, glyph, Fewest}
+use Rattle.layout.specs.Written.{put, Put}
+use Rattle.listing.specs.Lines.{digitsOf, decimal}
+use Rattle.listing.proofs.Numerals.{more, fewest, decimal-is, digits-length}
+
+-- ── from the last to the first ──
+
+-- the last byte of a row may be stored first
+put-last : (out : List ℕ) (at : ℕ) (bs : List ℕ) (b : ℕ) → put out at (bs ++ b ∷ []) ≡ put (set out (at + length bs) b) at bs
+unfolding put
+put-last out at [] b = rw add-zero
+put-last out at (x ∷ bs) b =
+    put-last (set out at x) (suc at) bs b
+    ∙ ap (λ l. sets l (suc at) bs) (ap (λ k. set (set out at x) k b) (suc-add at (length bs) ∙ sym (add-suc at (length bs))) ∙ set-comm out at (at + suc (length bs)) x b (λ e. omega arith))
+
+ten-glyph : (d : ℕ) → d < 10 → glyph d ≡ 48 + d
+ten-glyph d h = rw (lt-ltb d 10 h)
+
+-- one digit
+pub spelled-one : (out : List ℕ) (at k n : ℕ) → put out at (digits 10 (suc k) n) ≡ put (set out (at + k) (48 + n % 10)) at (digits 10 k (n / 10))
+spelled-one out at k n = put-last out at (digits 10 k (n / 10)) (glyph (n % 10)) ∙ rw (digits-length 10 k (n / 10), ten-glyph (n % 10) (omega arith))
+
+-- two digits of a number of two
+pub spelled-two : (out : List ℕ) (at k n : ℕ) → put out at (digits 10 (suc (suc k)) n) ≡ put (set (set out (at + k + 1) (48 + n % 100 % 10)) (at + k) (48 + n % 100 / 10)) at (digits 10 k (n / 100))
+spelled-two out at k n =
+    let a : at + suc k ≡ at + k + 1 = omega arith in
+    let ten : 0 < 10 = lit< tt in
+    let two : n % 100 ≡ n / 10 % 10 * 10 + n % 10 = mod-mul n ten ten in
+    let b : n % 10 ≡ n % 100 % 10 = sym (ap (λ x. x % 10) two ∙ digits-mod (n / 10 % 10) (mod-lt n ten)) in
+    let c : n / 10 % 10 ≡ n % 100 / 10 = sym (ap (λ x. x / 10) two ∙ digits-div (n / 10 % 10) (mod-lt n ten)) in
+    let d : n / 10 / 10 ≡ n / 100 = omega arith in
+    spelled-one out at (suc k) n ∙ rw (a, b) (spelled-one (set out (at + k + 1) (48 + n % 100 % 10)) at k (n / 10) ∙ rw (c, d))
+
+-- ── counted ──
+
+-- four digits more
+pub four-more : (n k : ℕ) → 10000 ≤ n → Fewest 10 1 (n / 10000) k → Fewest 10 1 n (4 + k)
+four-more n k h p =
+    let e : n / 10 / 10 / 10 / 10 ≡ n / 10000 = omega arith in
+    let f : 4 + k ≡ suc (suc (suc (suc k))) = omega arith in
+    rw f
+    (more n (suc (suc (suc k))) (omega arith) (more (n / 10) (suc (suc k)) (omega arith) (more (n / 10 / 10) (suc k) (omega arith) (more (n / 10 / 10 / 10) k (omega arith) (rw e p)))))
+
+-- ── digits in two parts ──
+
+-- the last digits are those of what is left by the power of ten
+last-digits : (k n : ℕ) → digits 10 k (n % 10 ^ k) ≡ digits 10 k n
+last-digits zero n = refl
+last-digits (suc k) n =
+    let ten : 0 < 10 = lit< tt in
+    let two : n % 10 ^ suc k ≡ n / 10 % 10 ^ k * 10 + n % 10 = rw (pow-suc 10 k) (mod-mul n (one-le-pow k 10 ten) ten) in
+    let b : n % 10 ^ suc k % 10 ≡ n % 10 = ap (λ x. x % 10) two ∙ digits-mod (n / 10 % 10 ^ k) (mod-lt n ten) in
+    let c : n % 10 ^ suc k / 10 ≡ n / 10 % 10 ^ k = ap (λ x. x / 10) two ∙ digits-div (n / 10 % 10 ^ k) (mod-lt n ten) in
+    rw (b, c, last-digits k (n / 10))
+
+-- the first of them, and the last j
+parted : (k j n : ℕ) → digits 10 (k + j) n ≡ digits 10 k (n / 10 ^ j) ++ digits 10 j n
+parted k zero n = simp (add-zero, div-one, append-nil)
+parted k (suc j) n =
+    let e : n / 10 / 10 ^ j ≡ n / 10 ^ suc j = div-div-eq-div-mul n 10 (10 ^ j) ∙ ap (λ x. n / x) (sym (pow-succ' 10 j)) in
+    rw (add-suc k j) (ap (λ l. l ++ glyph (n % 10) ∷ []) (parted k j (n / 10)) ∙ rw e (append-assoc (digits 10 k (n / 10 ^ suc j)) (digits 10 j (n / 10)) (glyph (n % 10) ∷ [])))
+
+pub in-parts : (k j n : ℕ) → digits 10 (k + j) n ≡ digits 10 k (n / 10 ^ j) ++ digits 10 j (n % 10 ^ j)
+in-parts k j n = parted k j n ∙ ap (λ l. digits 10 k (n / 10 ^ j) ++ l) (sym (last-digits j n))
+
+pub decimal-parts : (n : ℕ) → 10000 ≤ n → decimal n ≡ decimal (n / 10000) ++ digits 10 4 (n % 10000)
+decimal-parts n h =
+    let k = digitsOf (n / 10000) (n / 10000) in
+    let p = fewest (n / 10000) (n / 10000) (omega arith) in
+    let e : 4 + k ≡ k + 4 = omega arith in
+    sym (decimal-is n (4 + k) (four-more n k h p)) ∙ rw e (in-parts k 4 n ∙ ap (λ l. l ++ digits 10 4 (n % 10000)) (decimal-is (n / 10000) k p))
+
+-- ── stores ──
+
+pub one-put : (out : List ℕ) (at n : ℕ) → Put out at (digits 10 1 n) (set out at (48 + n % 10)) (at + 1)
+unfolding put
+one-put out at n = record { bytes = sym (simp add-zero at (spelled-one out at 0 n)); place = refl }
+
+pub two-put : (out : List ℕ) (at n : ℕ) → Put out at (digits 10 2 n) (set (set out (at + 1) (48 + n % 100 % 10)) at (48 + n % 100 / 10)) (at + 2)
+unfolding put
+two-put out at n = record { bytes = sym (simp add-zero at (spelled-two out at 0 n)); place = refl }

@@ -1,0 +1,28 @@
+-- `stream::write_some`: the tries fall. Assumes nothing.
+use borrow.Author.Needs.{needs}
+use Rattle.stream.proofs.write_some.Statement.{statement}
+use Rattle.stream.proofs.write_some.Tie as tie
+
+abbrev Inv-loop : tie.InvT-loop
+Inv-loop fd bytes what tries₀ tries = Unit {0}
+
+abbrev μ-loop : tie.MeasureT-loop
+μ-loop fd bytes what tries₀ tries = tries
+
+pub write-some-spec : {M : Type 1} → statement M
+write-some-spec =
+    tie.close
+    (tie.spec
+    Inv-loop
+    μ-loop
+    (λ c. tt)
+    (λ c κs. search needs)
+    (λ c κs. search needs)
+    (λ c. search needs)
+    (λ c κs. search needs)
+    (λ c κs. search needs)
+    (λ c. search needs)
+    (λ c. search needs)
+    (λ c. search needs)
+    (λ c. tt)
+    (λ c. search needs))

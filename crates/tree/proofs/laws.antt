@@ -1,0 +1,6 @@
+-- The laws of this crate that a crate above it may cite, beside its specs: its interface to proofs.
+-- Assumes nothing.
+pub mod Ways
+pub mod Unique
+pub mod Tested
+pub mod Given

@@ -1,0 +1,86 @@
+-- The promises determine the answer: two answers that a promise allows for the same table are equal.
+-- Of an accepted table both hold its walk, of which there is one; the tables that are accepted are not those that are refused. (`path` has layout's
+-- one-written.)
+-- Assumes nothing.
+use mathlib.Core.Path.{_≡_, refl, sym, ap, _∙_}
+use mathlib.Core.List.{List, _++_}
+use Prim.Native.Nat.{ℕ}
+use lib.ListN.{length, drop}
+use Rattle.layout.specs.Answer.{Told, Answer, got, refused}
+use Rattle.layout.specs.Written.{Said, says, no, saysWritten, leftOf}
+use Rattle.layout.proofs.laws.Determined.{Tells, one-written}
+use Rattle.layout.proofs.laws.Tidied.{zero-one}
+use Rattle.tree.specs.Table.{Table, tableAt}
+use Rattle.tree.specs.Way.{within, Walk}
+use Rattle.tree.specs.Path.{saidIf, pathsSaid, endsSaid, Walked, AllPaths}
+use Rattle.tree.specs.Says.{saysChecked, Walks, OrderSays, order, no-order}
+use Rattle.tree.specs.declared.Checked.the-variants as checked
+use Rattle.tree.specs.declared.Order.{Order}
+use Rattle.layout.specs.declared.Written.{Written}
+use Rattle.tree.proofs.laws.Ways.{one-walk}
+
+pub tells-checked : Tells saysChecked
+tells-checked (checked.Whole n) (checked.Whole m) e = cc
+tells-checked (checked.Whole n) (checked.Refused t) e = zero-one (cc)
+tells-checked (checked.Refused t) (checked.Whole n) e = zero-one (cc)
+tells-checked (checked.Refused t) (checked.Refused u) e = cc
+
+module _ {ps old : List ℕ} {r s : ℕ} {l m : List ℕ} (p : Walks ps old r l) (q : Walks ps old s m) where
+  pub lists : p .list ≡ q .list
+  lists = one-walk ps (within ps) (p .list) (q .list) (p .walk) (q .walk)
+
+  pub counts : r ≡ s
+  counts = p .count ∙ ap length lists ∙ sym (q .count)
+
+  pub places : l ≡ m
+  places = p .places ∙ ap (λ (x : List ℕ). x ++ drop (length x) old) lists ∙ sym (q .places)
+
+abbrev made : ℕ → ℕ → List ℕ → Order
+made a b c = record { refusal = a; count = b; places = c }
+
+orders : (r s : Order) → r .refusal ≡ s .refusal → r .count ≡ s .count → r .places ≡ s .places → r ≡ s
+orders r s a b c =
+    ap (λ (x : ℕ). made x (r .count) (r .places)) a
+    ∙ ap (λ (x : ℕ). made (s .refusal) x (r .places)) b
+    ∙ ap (made (s .refusal) (s .count)) c
+
+pub one-order : (t : Table) (r s : Order) → OrderSays t r → OrderSays t s → r ≡ s
+one-order t r s (order a e w) (order b f v) = orders r s (e ∙ sym f) (counts w v) (places w v)
+one-order t r s (order a e w) (no-order b f g h) = zero-one (cc)
+one-order t r s (no-order a e g h) (order b f w) = zero-one (cc)
+one-order t r s (no-order {why = x} a e g h) (no-order {why = y} b f i j) =
+    let same : x ≡ y = cc in
+    orders r s (e ∙ ap (λ (z : Told). z .no) same ∙ sym f) (g ∙ sym i) (h ∙ sym j)
+
+-- what is said of the walk and of all paths goes by the table alone
+module _ (t : Table) (l m : List ℕ) (room : ℕ)
+    (p : (n : ℕ) → tableAt t ≡ got tt n → Walk (t .parents) (within (t .parents)) l)
+    (q : (n : ℕ) → tableAt t ≡ got tt n → Walk (t .parents) (within (t .parents)) m) where
+  alike : (said : List ℕ → Said) → ((why : Told) → tableAt t ≡ refused why → (k : List ℕ) → said k ≡ no why) → said l ≡ said m
+  alike said refuses = go (tableAt t) refl
+    where
+      go : (a : Answer (Unit {0})) → tableAt t ≡ a → said l ≡ said m
+      go (got u n) e = ap said (one-walk (t .parents) (within (t .parents)) l m (p n e) (q n e))
+      go (refused why) e = refuses why e l ∙ sym (refuses why e m)
+
+  same-paths : pathsSaid t l room ≡ pathsSaid t m room
+  unfolding pathsSaid
+  same-paths = alike (λ k. pathsSaid t k room) (λ why e k. rw e)
+
+  same-ends : endsSaid t l room ≡ endsSaid t m room
+  unfolding endsSaid
+  same-ends = alike (λ k. endsSaid t k room) (λ why e k. rw e)
+
+  pub same-walk : saidIf (tableAt t) (says l) ≡ saidIf (tableAt t) (says m)
+  same-walk = alike (λ k. saidIf (tableAt t) (says k)) (λ why e k. rw e)
+
+pub one-walked : (t : Table) (old new new′ : List ℕ) (x y : Written) → Walked t old (saysWritten x) new → Walked t old (saysWritten y) new′ → (x ≡ y) × (new ≡ new′)
+one-walked t old new new′ x y p q =
+    one-written (saidIf (tableAt t) (says (q .order))) old new new′ x y (rw (same-walk t (p .order) (q .order) 0 (p .walked) (q .walked)) at (p .wrote)) (q .wrote)
+
+pub one-paths : (t : Table) (out ends : List ℕ) (x y : Written) (o o′ e e′ : List ℕ)
+    → AllPaths t out ends (saysWritten x) o e → AllPaths t out ends (saysWritten y) o′ e′ → (x ≡ y) × (o ≡ o′) × (e ≡ e′)
+one-paths t out ends x y o o′ e e′ p q =
+    let paths = same-paths t (p .order) (q .order) (length ends) (p .walked) (q .walked) in
+    let both = one-written (pathsSaid t (q .order) (length ends)) out o o′ x y (rw paths at (p .wrote)) (q .wrote) in
+    (both .0, both .1, p .left ∙ ap (λ (s : Said). leftOf s ends) (same-ends t (p .order) (q .order) (length out) (p .walked) (q .walked)) ∙ sym (q .left))

@@ -1,0 +1,199 @@
+-- Code points one at a time: what is left to write after the first is what its units leave. And how long that can be.
+-- Assumes nothing.
+use mathlib.Core.Path.{_≡_, refl, ap}
+use mathlib.Core.Bool.{Bool, true, false}
+use mathlib.Core.List.{List, [], _∷_, _++_}
+use Prim.Native.Nat.{ℕ, zero, suc, _+_, _-_, _*_, _/_, _%_, _≤_, _<_}
+use native.Mathlib.Nat.{not-suc-le-zero}
+use native.Mathlib.Omega.{arith}
+use borrow.Author.Tests.{eq-eqb, ne-eqb, ltb-true}
+use lib.Dec.{ltb, eqb}
+use lib.ListN.{length, take, drop, length-append}
+use lib.Seq.{drop-drop}
+use Rattle.layout.specs.Answer.{Told, Answer, got, refused, pick, after, means, badText, spanAt, fieldAt}
+use Rattle.layout.specs.Bytes.{Bytes, bytes, number, cells}
+use Rattle.layout.specs.Written.{Put, roomed, spelling}
+use Rattle.layout.proofs.laws.Numbers.{Bytes-drop, bytes-number}
+use Rattle.layout.proofs.laws.Tidied.{zero-one}
+use Rattle.wire.specs.declared.Part.{Part}
+use Rattle.wire.specs.Layout.{high, paired}
+use Rattle.wire.specs.Places.{numAt, unitsAt, textAt, itemsIn}
+use Rattle.wire.specs.Utf8.{pairPoint, points, encoded, encodedAll, utf8, utf8At, Leads}
+use Rattle.wire.proofs.Spelled.{length-cells}
+use Rattle.wire.proofs.Texts.{cells-none}
+
+-- ── the first code point ──
+
+abbrev unit : List ℕ → ℕ → ℕ
+unit s at = number (take 2 (drop at s))
+
+alone-is : (s : List ℕ) (at left : ℕ) → 0 < left → (unit s at / 1024 ≡ 54 → ⊥)
+    → points (cells 2 left (drop at s)) ≡ unit s at ∷ points (cells 2 (left - 1) (drop (at + 2) s))
+unfolding points cells
+alone-is s at zero h e = absurd (not-suc-le-zero h)
+alone-is s at (suc zero) h e = refl
+alone-is s at (suc (suc m)) h e =
+    let less : suc (suc m) - 1 ≡ suc m = omega arith in
+    rw (ne-eqb (unit s at / 1024) 54 e, less, ← drop-drop 2 at s)
+
+last-is : (s : List ℕ) (at left : ℕ) → left ≡ 1 → points (cells 2 left (drop at s)) ≡ unit s at ∷ points (cells 2 (left - 1) (drop (at + 2) s))
+unfolding points cells
+last-is s at left e = rw e
+
+pair-is : (s : List ℕ) (at left : ℕ) → 0 < left → (left ≡ 1 → ⊥) → unit s at / 1024 ≡ 54
+    → points (cells 2 left (drop at s)) ≡ pairPoint (unit s at) (unit s (at + 2)) ∷ points (cells 2 (left - 2) (drop (at + 4) s))
+unfolding points cells
+pair-is s at zero h e f = absurd (not-suc-le-zero h)
+pair-is s at (suc zero) h e f = absurd (e refl)
+pair-is s at (suc (suc m)) h e f =
+    let less : suc (suc m) - 2 ≡ m = omega arith in
+    let far : at + 4 ≡ at + 2 + 2 = omega arith in
+    rw (eq-eqb (unit s at / 1024) 54 f, less, far, ← drop-drop 2 (at + 2) s, ← drop-drop 2 at s)
+
+module _ (s : List ℕ) (at left u : ℕ) (some : 0 < left) (is : u ≡ unit s at) (small : u < 0x10000) where
+  pub alone : (u / 1024 ≡ 54 → ⊥) → Leads s at left (record { value = u; units = 1 })
+  alone e = record { first = rw is (alone-is s at left some (rw is at e)); some = omega arith; there = some; small = omega arith }
+
+  pub last : left ≡ 1 → Leads s at left (record { value = u; units = 1 })
+  last e = record { first = rw is (last-is s at left e); some = omega arith; there = some; small = omega arith }
+
+  pub pair : (v : ℕ) → v ≡ unit s (at + 2) → u / 1024 ≡ 54 → (left ≡ 1 → ⊥) → Leads s at left (record { value = pairPoint u v; units = 2 })
+  pair v f h e = record { first = rw (is, f) (pair-is s at left some e (rw is at h)); some = omega arith; there = omega arith; small = omega arith }
+
+-- ── its bytes ──
+
+abbrev two-bytes : ℕ → List ℕ
+two-bytes c = (0xC0 + c / 64) ∷ (0x80 + c % 64) ∷ []
+
+abbrev three-bytes : ℕ → List ℕ
+three-bytes c = (0xE0 + c / 4096) ∷ (0x80 + c / 64 % 64) ∷ (0x80 + c % 64) ∷ []
+
+abbrev four-bytes : ℕ → List ℕ
+four-bytes c = (0xF0 + c / 262144) ∷ (0x80 + c / 4096 % 64) ∷ (0x80 + c / 64 % 64) ∷ (0x80 + c % 64) ∷ []
+
+data Encoded (c : ℕ) : List ℕ → Type 0 where
+  one : c < 0x80 → Encoded c (c ∷ [])
+  two : c < 0x800 → Encoded c (two-bytes c)
+  three : c < 0x10000 → Encoded c (three-bytes c)
+  four : Encoded c (four-bytes c)
+
+encoding : (c : ℕ) → Encoded c (encoded c)
+unfolding encoded
+encoding c = go (ltb c 0x80) (ltb c 0x800) (ltb c 0x10000) (ltb-true c 0x80) (ltb-true c 0x800) (ltb-true c 0x10000)
+  where
+    go : (x y z : Bool) → (x ≡ true → c < 0x80) → (y ≡ true → c < 0x800) → (z ≡ true → c < 0x10000)
+        → Encoded c (pick x (c ∷ []) (pick y (two-bytes c) (pick z (three-bytes c) (four-bytes c))))
+    go true y z f g h = one (f refl)
+    go false true z f g h = two (g refl)
+    go false false true f g h = three (h refl)
+    go false false false f g h = four
+
+pub encoded-few : (c : ℕ) → length (encoded c) ≤ 4
+encoded-few c = go (encoding c)
+  where
+    go : {l : List ℕ} → Encoded c l → length l ≤ 4
+    go (one h) = omega arith
+    go (two h) = omega arith
+    go (three h) = omega arith
+    go four = omega arith
+
+-- as a number and back
+encoded-stored : (c : ℕ) → c < 0x110000 → bytes (length (encoded c)) (number (encoded c)) ≡ encoded c
+encoded-stored c small = bytes-number (encoded c) (go (encoding c))
+  where
+    go : {l : List ℕ} → Encoded c l → Bytes l
+    go (one h) = (omega arith, tt)
+    go (two h) = (omega arith, (omega arith, tt))
+    go (three h) = (omega arith, (omega arith, (omega arith, tt)))
+    go four = (omega arith, (omega arith, (omega arith, (omega arith, tt))))
+
+pub point-put : {old new : List ℕ} {o next k x : ℕ} (c : ℕ) → c < 0x110000 → k ≡ length (encoded c) → x ≡ number (encoded c)
+    → Put old o (roomed old o (bytes k x)) new next → Put old o (roomed old o (encoded c)) new next
+point-put c small e f p = rw (e, f, encoded-stored c small) at p
+
+-- ── what is left to write ──
+
+pub utf8-step : {s : List ℕ} {at left : ℕ} {r : _} → Leads s at left r
+    → utf8 (cells 2 left (drop at s)) ≡ encoded (r .value) ++ utf8 (cells 2 (left - r .units) (drop (at + r .units * 2) s))
+unfolding utf8 encodedAll
+utf8-step l = rw (l .first)
+
+pub utf8-none : (s : List ℕ) (at left : ℕ) → left ≤ 0 → utf8 (cells 2 left (drop at s)) ≡ []
+unfolding utf8 encodedAll points
+utf8-none s at left h = rw (cells-none left (drop at s) h)
+
+-- ── the string at a place ──
+
+module _ (s : List ℕ) (at : ℕ) where
+  pub utf8-got : (part : Part) (n : ℕ) → got part n ≡ textAt s at → utf8At s at ≡ got (utf8 (itemsIn 2 s part)) n
+  unfolding utf8At means
+  utf8-got part n e = rw (← e)
+
+  pub utf8-refused : (t : Told) → refused t ≡ textAt s at → utf8At s at ≡ refused t
+  unfolding utf8At means
+  utf8-refused t e = rw (← e)
+
+-- ── how long it can be ──
+
+points-few : (us : List ℕ) → length (points us) ≤ length us
+unfolding points
+points-few [] = omega arith
+points-few (u ∷ []) = omega arith
+points-few (u ∷ v ∷ us) = go (high u) (points-few us) (points-few (v ∷ us))
+  where
+    go : (b : Bool) → length (points us) ≤ length us → length (points (v ∷ us)) ≤ suc (length us)
+        → length (pick b (pairPoint u v ∷ points us) (u ∷ points (v ∷ us))) ≤ suc (suc (length us))
+    go true h k = omega arith
+    go false h k = omega arith
+
+all-few : (cs : List ℕ) → length (encodedAll cs) ≤ 4 * length cs
+unfolding encodedAll
+all-few [] = omega arith
+all-few (c ∷ cs) = omega (arith, length-append (encoded c) (encodedAll cs), encoded-few c, all-few cs)
+
+pub utf8-few : (us : List ℕ) → length (utf8 us) ≤ 4 * length us
+unfolding utf8
+utf8-few us = omega (arith, all-few (points us), points-few us)
+
+-- what came first in an answer that was got
+parted : {A B : Type 0} (x : Answer A) (k : A → ℕ → Answer B) {b : B} {n : ℕ} → got b n ≡ after x k → (a : A) × (p : ℕ) × (got a p ≡ x) × (got b n ≡ k a p)
+unfolding after
+parted (got a p) k e = (a, p, refl, e)
+parted (refused t) k e = zero-one (cc)
+
+byte-small : (s : List ℕ) → Bytes s → number (take 1 s) < 256
+unfolding number
+byte-small [] h = omega arith
+byte-small (b ∷ s) h = omega (arith, h .0)
+
+-- a string has at most 254 units, for its count is one byte
+text-few : (s : List ℕ) → Bytes s → (at : ℕ) (part : Part) (n : ℕ) → got part n ≡ textAt s at → part .count ≤ 254
+unfolding textAt unitsAt fieldAt
+text-few s h at part n e =
+    let a = parted (numAt 1 s at) _ e in
+    let b = parted (spanAt at 1 s at) _ (a .2) in
+    let m : a .0 ≡ number (take 1 (drop at s)) = cc in
+    let small = byte-small (drop at s) (Bytes-drop at s h) in
+    count (a .0) (a .1) (omega arith) (eqb (a .0) 0) (a .3)
+  where
+    units : (m p q : ℕ) → m < 256 → (b : Bool) → got part n ≡ pick b (got (record { start = p; count = m - 1 }) q) (refused (badText at)) → part .count ≤ 254
+    units m p q h true e =
+        let f : part ≡ record { start = p; count = m - 1 } = cc in
+        omega (arith, ap (λ (x : Part). x .count) f)
+    units m p q h false e = zero-one (cc)
+
+    count : (m p : ℕ) → m < 256 → (b : Bool) → got part n ≡ pick b (got (record { start = p; count = 0 }) p) (unitsAt at m s p) → part .count ≤ 254
+    count m p h true e =
+        let f : part ≡ record { start = p; count = 0 } = cc in
+        omega (arith, ap (λ (x : Part). x .count) f)
+    count m p h false e =
+        let a = parted (spanAt at (m * 2) s p) _ e in
+        units m p (a .1) h (paired (cells 2 (m - 1) (drop p s))) (a .3)
+
+pub utf8-short : (s : List ℕ) → Bytes s → (at : ℕ) → length (spelling (utf8At s at)) ≤ 1016
+unfolding utf8At means
+utf8-short s h at = go (textAt s at) (text-few s h at)
+  where
+    go : (x : Answer Part) → ((part : Part) (n : ℕ) → got part n ≡ x → part .count ≤ 254) → length (spelling (means (λ p. utf8 (itemsIn 2 s p)) x)) ≤ 1016
+    go (got p n) f = omega (arith, f p n refl, utf8-few (itemsIn 2 s p), length-cells 2 (p .count) (drop (p .start) s))
+    go (refused t) f = omega arith

@@ -1,0 +1,178 @@
+// A question's words, read by its signature: a letter a word.
+// 1 2 4 8: a number of so many bytes; r: a room; b: bytes; h: a list of 16-bit numbers, of which there is one at most; n: of 32-bit
+// ones, as many as are lent room; w: as it stands.
+use crate::list;
+use crate::number;
+use crate::slice;
+
+// The numbers of a list at most.
+pub const MOST_NUMBERS: usize = 4096;
+
+// Of each word, in order, a number and a count: a number's value; where bytes, a list or a word start, and how many they are. Of the
+// last bytes or word, and of the room, again by name.
+pub struct Args {
+    pub numbers: [usize; 8],
+    pub counts: [usize; 8],
+    pub start: usize,
+    pub count: usize,
+    pub room: usize,
+    pub ok: bool,
+    // how many words are read, the place in the line behind them, and in the lent numbers behind their lists
+    n: usize,
+    at: usize,
+    used: usize,
+}
+
+struct Got {
+    number: usize,
+    count: usize,
+    ok: bool,
+}
+
+fn most(letter: u8) -> u64 {
+    match letter {
+        b'1' => 0xFF,
+        b'2' => 0xFFFF,
+        b'4' => 0xFFFF_FFFF,
+        b'r' => 1048576,
+        _ => 0xFFFF_FFFF_FFFF_FFFF,
+    }
+}
+
+fn a_number(letter: u8, w: &[u8]) -> Got {
+    let n = number::parse(w, most(letter));
+    Got {
+        number: n.v as usize,
+        count: 0,
+        ok: n.ok,
+    }
+}
+
+fn one(
+    letter: u8,
+    w: &mut [u8],
+    start: usize,
+    halves: &mut [u16],
+    numbers: &mut [u32],
+    used: usize,
+) -> Got {
+    match letter {
+        b'b' => {
+            let n = list::hex_bytes(w);
+            Got {
+                number: start,
+                count: n.n,
+                ok: n.ok,
+            }
+        }
+        b'h' => {
+            let n = list::list16(w, halves);
+            Got {
+                number: 0,
+                count: n.n,
+                ok: n.ok,
+            }
+        }
+        b'n' => {
+            let n = list::list32(w, slice::part32_mut(numbers, used, MOST_NUMBERS));
+            Got {
+                number: used,
+                count: n.n,
+                ok: n.ok,
+            }
+        }
+        b'w' => Got {
+            number: start,
+            count: w.len(),
+            ok: true,
+        },
+        _ => a_number(letter, w),
+    }
+}
+
+impl Args {
+    fn and(self, letter: u8, g: Got, at: usize) -> Args {
+        let mut a = self;
+        let n = a.n;
+        if n < 8 {
+            a.numbers[n] = g.number;
+            a.counts[n] = g.count;
+            a.n = n + 1;
+        } else {
+            a.ok = false;
+        }
+        if letter == b'b' || letter == b'w' {
+            a.start = g.number;
+            a.count = g.count;
+        }
+        if letter == b'r' {
+            a.room = g.number;
+        }
+        if letter == b'n' {
+            a.used = std::num::wrapping_add_usize(a.used, MOST_NUMBERS);
+        }
+        a.at = at;
+        if !g.ok {
+            a.ok = false;
+        }
+        a
+    }
+
+    fn ended(self, ok: bool) -> Args {
+        let mut a = self;
+        if !ok {
+            a.ok = false;
+        }
+        a
+    }
+}
+
+fn next(a: Args, letter: u8, line: &mut [u8], halves: &mut [u16], numbers: &mut [u32]) -> Args {
+    let at = a.at;
+    if line.len() <= at {
+        return a.ended(false);
+    }
+    let end = slice::find(line, at + 1, b' ');
+    let w = slice::part_mut(line, at + 1, end);
+    let g = one(letter, w, at + 1, halves, numbers, a.used);
+    a.and(letter, g, end)
+}
+
+// The words behind a place of the line, one for each letter, and nothing after them.
+pub fn read(
+    signature: &[u8],
+    line: &mut [u8],
+    at: usize,
+    halves: &mut [u16],
+    numbers: &mut [u32],
+) -> Args {
+    let mut a = Args {
+        numbers: [0usize; 8],
+        counts: [0usize; 8],
+        start: 0,
+        count: 0,
+        room: 0,
+        ok: true,
+        n: 0,
+        at,
+        used: 0,
+    };
+    let mut i: usize = 0;
+    while i < signature.len() {
+        a = next(a, signature[i], line, halves, numbers);
+        i += 1;
+    }
+    a.ended(a.at == line.len())
+}
+
+pub fn low8(x: usize) -> u8 {
+    (x % 256) as u8
+}
+
+pub fn low16(x: usize) -> u16 {
+    (x % 65536) as u16
+}
+
+pub fn low32(x: usize) -> u32 {
+    (x % 4294967296) as u32
+}

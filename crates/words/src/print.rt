@@ -1,0 +1,159 @@
+// The text of the answers: a lent buffer, and the place after what stands in it. A full buffer is written out and
+// begun again, so every function here takes the place and answers the next. Where it could not be written, the place is one behind
+// the buffer from then on, and nothing more is put or written.
+use crate::slice;
+
+const FILLING: u8 = 0xa5;
+
+const LOST: usize = 0xFFFF_FFFF_FFFF_FFFF;
+
+// The one function that writes: whether all was written. What failed is told.
+fn write(s: &[u8]) -> bool {
+    stream::write_all(1, s, b"ask: writing standard output")
+}
+
+pub fn is_lost(text: &[u8], at: usize) -> bool {
+    text.len() < at
+}
+
+pub fn put(text: &mut [u8], at: usize, b: u8) -> usize {
+    if at < text.len() {
+        text[at] = b;
+        return at + 1;
+    }
+    if is_lost(text, at) || !write(text) {
+        return LOST;
+    }
+    if 0 < text.len() {
+        text[0] = b;
+        return 1;
+    }
+    0
+}
+
+pub fn put_all(text: &mut [u8], at: usize, s: &[u8]) -> usize {
+    let mut o = at;
+    let mut i: usize = 0;
+    while i < s.len() {
+        o = put(text, o, s[i]);
+        i += 1;
+    }
+    o
+}
+
+pub fn decimal(text: &mut [u8], at: usize, n: u64) -> usize {
+    let mut digits = [0u8; 20];
+    let k = io::decimal(n, &mut digits);
+    put_all(text, at, &digits[..k])
+}
+
+fn glyph(d: u8) -> u8 {
+    if d < 10 {
+        return 48 + d;
+    }
+    if d < 16 {
+        return 87 + d;
+    }
+    b'?'
+}
+
+pub fn hex(text: &mut [u8], at: usize, b: u8) -> usize {
+    let o = put(text, at, glyph(b / 16));
+    put(text, o, glyph(b % 16))
+}
+
+// Two digits a byte, `-` for none.
+pub fn bytes(text: &mut [u8], at: usize, s: &[u8]) -> usize {
+    if s.len() == 0 {
+        return put(text, at, b'-');
+    }
+    let mut o = at;
+    let mut i: usize = 0;
+    while i < s.len() {
+        o = hex(text, o, s[i]);
+        i += 1;
+    }
+    o
+}
+
+// What is put between the items of a list: nothing before the first.
+pub fn between(text: &mut [u8], at: usize, i: usize, b: u8) -> usize {
+    if i == 0 {
+        return at;
+    }
+    put(text, at, b)
+}
+
+// Joined by commas, `-` for none.
+pub fn list16(text: &mut [u8], at: usize, list: &[u16]) -> usize {
+    if list.len() == 0 {
+        return put(text, at, b'-');
+    }
+    let mut o = at;
+    let mut i: usize = 0;
+    while i < list.len() {
+        o = between(text, o, i, b',');
+        o = decimal(text, o, wide16(list[i]));
+        i += 1;
+    }
+    o
+}
+
+pub fn list32(text: &mut [u8], at: usize, list: &[u32]) -> usize {
+    if list.len() == 0 {
+        return put(text, at, b'-');
+    }
+    let mut o = at;
+    let mut i: usize = 0;
+    while i < list.len() {
+        o = between(text, o, i, b',');
+        o = decimal(text, o, wide32(list[i]));
+        i += 1;
+    }
+    o
+}
+
+// Writes what stands before the place: whether all is written.
+pub fn flush(text: &[u8], at: usize) -> bool {
+    if is_lost(text, at) {
+        return false;
+    }
+    write(slice::part(text, 0, at))
+}
+
+pub fn unknown(text: &mut [u8], at: usize) -> usize {
+    put(text, at, b'?')
+}
+
+pub fn wide8(x: u8) -> u64 {
+    x as u64
+}
+
+pub fn wide16(x: u16) -> u64 {
+    x as u64
+}
+
+pub fn wide32(x: u32) -> u64 {
+    x as u64
+}
+
+// The output for a writer, of so many bytes, filled.
+pub fn page(out: &mut [u8], size: usize) -> &mut [u8] {
+    let p = slice::part_mut(out, 0, size);
+    fill(p);
+    p
+}
+
+fn fill(out: &mut [u8]) {
+    let mut i: usize = 0;
+    while i < out.len() {
+        out[i] = FILLING;
+        i += 1;
+    }
+}
+
+// A space and the bytes.
+pub fn output(text: &mut [u8], at: usize, out: &[u8]) -> usize {
+    let o = put(text, at, b' ');
+    bytes(text, o, out)
+}

@@ -1,0 +1,197 @@
+"""What ./ptp does by itself: words, files, building, statuses. The programs are scripts: nothing need be proved for it."""
+
+import os
+import signal
+import subprocess
+import time
+import unittest
+
+from door.sandbox import Sandbox, read_some, result
+
+CAT = "#!/bin/sh\nexec cat\n"
+LISTING = "place way kind code tid bytes\n0 note 3\n9 refusal %s\nrecords 1 bytes 9\n"
+
+
+class Door(unittest.TestCase):
+    def sandbox(self, program=CAT, **words):
+        box = Sandbox(program, **words)
+        self.addCleanup(box.remove)
+        return box
+
+    def built(self, program=CAT, **words):
+        return self.sandbox(program, **words).built("list", "ask")
+
+
+class Words(Door):
+    def test_help_is_printed_by_each_of_its_names(self):
+        box = self.sandbox()
+        status, page, said = box.run("help", kit=False)
+        self.assertEqual((status, said), (0, ""))
+        for words in (["--help"], ["-h"], ["list", "--help"], ["wrong", "-h"]):
+            self.assertEqual(box.run(*words, kit=False), (0, page, ""), words)
+        for command in ("list", "ask", "compare", "rust", "bench", "wrong", "test", "help"):
+            self.assertIn(f"\n./ptp {command}", "\n" + page)
+        for command in ("list", "ask", "compare", "rust", "bench", "wrong", "test"):
+            self.assertRegex(page, rf"\n {{10,}}(echo .* \| )?\./ptp {command}")
+
+    def refused(self, box, words, named):
+        """One sentence that names it, status 2, and nothing on standard output."""
+        status, out, said = box.run(*words)
+        self.assertEqual((status, out), (2, ""), words)
+        self.assertRegex(said, r"\Aptp: [^\n]+\n\Z")
+        self.assertIn(named, said)
+
+    def test_what_is_not_known_is_named(self):
+        box = self.built()
+        there = box.home / "crates.txt"
+        self.refused(box, [], "no command")
+        self.refused(box, ["lits"], "lits")
+        self.refused(box, ["lits", "--help"], "lits")
+        self.refused(box, ["help", "lits"], "lits")
+        self.refused(box, ["list", ""], "there is no file")
+        self.refused(box, ["list", "--chekc"], "--chekc")
+        self.refused(box, ["ask", "--check"], "--check")
+        self.refused(box, ["list", there, "second"], "second")
+        self.refused(box, ["list", "-", "second"], "second")
+        self.refused(box, ["list", "missing.recording"], "missing.recording")
+        self.refused(box, ["list", box.home], str(box.home))
+        self.refused(box, ["ask", "missing.questions"], "missing.questions")
+        self.refused(box, ["list", "--follow"], "--follow")
+        self.refused(box, ["list", "--follow", "-"], "--follow")
+        self.refused(box, ["rust", "word"], "word")
+        self.refused(box, ["test", "word"], "word")
+        self.refused(box, ["compare", "1", "many"], "many")
+        self.refused(box, ["compare", "1", "2", "missing.rs"], "missing.rs")
+        self.refused(box, ["compare", "1", "2", there, "more"], "more")
+        self.refused(box, ["bench", "missing.rs"], "missing.rs")
+        self.refused(box, ["bench", there, "more"], "more")
+        self.refused(box, ["bench"], "no source is given")
+
+    def test_input_from_a_file_or_standard_input(self):
+        box = self.built()
+        (box.folder / "a file").write_bytes(b"from the file")
+        for words in (["a file"], ["--check", "a file"]):
+            self.assertEqual(box.run("list", *words)[1], "from the file", words)
+        self.assertEqual(box.run("ask", "a file"), (0, "from the file", ""))
+        self.assertEqual(box.run("list", input=b"piped"), (0, "piped", ""))
+        self.assertEqual(box.run("list", "-", input=b"piped"), (0, "piped", ""))
+        self.assertEqual(box.run("list", "a file", cwd="/"), (2, "", "ptp: there is no file a file\n"))
+
+
+class Statuses(Door):
+    def test_what_a_program_says_is_a_failure(self):
+        box = self.built('#!/bin/sh\necho one line\necho "list: it broke" >&2\n')
+        self.assertEqual(box.run("list"), (1, "one line\n", "list: it broke\n"))
+        self.assertEqual(box.run("ask"), (1, "one line\n", "list: it broke\n"))
+        self.assertEqual(box.run("list", "--check"), (1, "one line\n", "list: it broke\n"))
+
+    def test_a_status_is_kept(self):
+        self.assertEqual(self.built("#!/bin/sh\nexit 3\n").run("list"), (3, "", ""))
+        self.assertEqual(self.built("#!/bin/sh\nkill -9 $$\n").run("list")[:2], (137, ""))
+
+    def test_output_is_untouched(self):
+        data = bytes(range(256)) * 1000
+        box = self.built()
+        for words in ((), ("--check",)):
+            made = subprocess.run([box.home / "ptp", "list", *words], input=data, stdout=subprocess.PIPE, timeout=60)
+            self.assertEqual(made.stdout, data)
+
+    def test_a_refusal_is_a_failure_where_it_is_asked_for(self):
+        for number in ("1", "14", "1 20"):
+            listing = LISTING % number
+            box = self.built(f"#!/bin/sh\ncat <<END\n{listing}END\n")
+            self.assertEqual(box.run("list"), (0, listing, ""))
+            self.assertEqual(box.run("list", "--check"), (1, listing, ""))
+        sound = "place way kind code tid bytes\nrecords 0 bytes 0\n"
+        self.assertEqual(self.built(f"#!/bin/sh\ncat <<END\n{sound}END\n").run("list", "--check"), (0, sound, ""))
+
+    def test_a_closed_pipe_ends_it_quietly(self):
+        box = self.built("#!/bin/sh\nwhile :; do echo a line; done\n")
+        for words in ("list", "list --check"):
+            script = f"{{ {box.home}/ptp {words}; echo $? >status; }} | head -n 1"
+            self.assertEqual(result(["sh", "-c", script], cwd=box.folder), (0, "a line\n", ""))
+            self.assertNotEqual((box.folder / "status").read_text(), "0\n")
+
+    def test_closed_inputs_and_outputs_are_told(self):
+        box = self.built()
+        for shell in ("dash", "bash"):
+            for closed, named in (("<&-", "standard input"), (">&- </dev/null", "standard output")):
+                status, out, said = result([shell, "-c", f"{shell} {box.home}/ptp list {closed}"])
+                self.assertEqual((status, out), (1, ""))
+                self.assertEqual(said, f"ptp: {named} is closed\n")
+
+
+class Following(Door):
+    def test_a_growing_file_is_listed_until_it_is_interrupted(self):
+        box = self.built()
+        grows = box.folder / "grows"
+        grows.write_bytes(b"first ")
+        started = subprocess.Popen([box.home / "ptp", "list", "--follow", grows], stdout=subprocess.PIPE, start_new_session=True)
+        self.addCleanup(started.stdout.close)
+        self.assertEqual(read_some(started.stdout), b"first ")
+        with grows.open("ab") as more:
+            more.write(b"second")
+        self.assertEqual(read_some(started.stdout), b"second")
+        self.assertIsNone(started.poll())
+        os.killpg(started.pid, signal.SIGINT)
+        self.assertNotEqual(started.wait(10), 0)
+        self.assertEqual(read_some(started.stdout), b"")
+
+    def test_it_ends_with_the_program(self):
+        box = self.built("#!/bin/sh\nhead -c 3\n")
+        (box.folder / "grows").write_bytes(b"abcdef")
+        self.assertEqual(box.run("list", "--follow", "grows"), (0, "abc", ""))
+
+
+class Building(Door):
+    def test_a_line_a_crate_then_nothing(self):
+        box = self.sandbox()
+        told = "proving layout, 1 of 3\nproving wire, 2 of 3\nproving list, 3 of 3\n"
+        self.assertEqual(box.run("list", input=b"x", env={"SLOW": "1.2"}), (0, "x", told))
+        self.assertIn("many words of the prover on wire", (box.home / "target" / "door" / "list.log").read_text())
+        self.assertEqual(box.run("list", input=b"x"), (0, "x", ""))
+        self.assertEqual(box.run("list", input=b"x", kit=False), (0, "x", ""))
+
+    def change(self, box, path):
+        later = time.time() + 5
+        os.utime(box.home / path, (later, later))
+
+    def test_only_what_it_needs_makes_it_stale(self):
+        box = self.built()
+        self.change(box, "crates/tree/src/lib.rt")
+        self.change(box, "crates/abi/src/lib.rt")
+        self.assertEqual(box.run("list", kit=False), (0, "", ""))
+        missing = (2, "", "ptp: the Rattle kit is missing: no rt on the path\n")
+        self.assertEqual(box.run("ask", kit=False), missing)
+        self.change(box, "crates/wire/src/lib.rt")
+        self.assertEqual(box.run("list", kit=False), missing)
+
+    def test_a_program_that_cannot_be_built(self):
+        box = self.sandbox()
+        status, out, said = box.run("list", env={"RT_REFUSES": "wire"})
+        self.assertEqual((status, out), (2, ""))
+        self.assertRegex(said, r"ptp: list could not be built: \S+/target/door/list.log says why\n\Z")
+
+
+class OtherMachines(Door):
+    """On a processor that is not x86-64."""
+
+    def test_compiled_anew_where_a_compiler_is(self):
+        box = self.sandbox(machine="aarch64")
+        box.tool("cc")
+        self.assertEqual(box.run("list", input=b"x")[:2], (0, "x"))
+        self.assertIn("compiled: list target/native/list", (box.home / "target" / "door" / "list.log").read_text())
+        self.assertEqual(box.run("list", input=b"x", kit=False), (0, "x", ""))
+
+    def test_emulated_where_none_is(self):
+        box = self.sandbox(machine="aarch64")
+        self.assertEqual(box.run("list", input=b"x")[:2], (0, "emulated: target/bin/list\nx"))
+        self.assertEqual(box.run("list", input=b"x", kit=False), (0, "emulated: target/bin/list\nx", ""))
+
+    def test_built_by_the_gate_and_emulated(self):
+        box = self.built(machine="aarch64")
+        self.assertEqual(box.run("list", input=b"x"), (0, "emulated: target/bin/list\nx", ""))
+
+
+if __name__ == "__main__":
+    unittest.main()

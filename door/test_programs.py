@@ -1,0 +1,75 @@
+"""The proved programs through ./ptp, of this repository, where they are built."""
+
+import os
+import pathlib
+import shutil
+import signal
+import subprocess
+import tempfile
+import unittest
+
+from door.sandbox import ROOT, read_some, result
+
+PTP = ROOT / "ptp"
+EXAMPLES = ROOT / "examples"
+# A path without the kit: the programs that are built need none.
+NO_KIT = {"PATH": os.pathsep.join(part for part in os.environ["PATH"].split(os.pathsep) if not os.path.exists(os.path.join(part, "rt")))}
+
+
+def listing(name):
+    return (EXAMPLES / f"{name}.listing").read_text()
+
+
+class Programs(unittest.TestCase):
+    def test_every_example_without_the_kit(self):
+        self.assertIsNone(shutil.which("rt", path=NO_KIT["PATH"]))
+        found = sorted(EXAMPLES.glob("*.recording"))
+        self.assertTrue(found)
+        for path in found:
+            refused = " refusal " in listing(path.stem)
+            self.assertEqual(result([PTP, "list", path], env=NO_KIT), (0, listing(path.stem), ""), path)
+            self.assertEqual(result([PTP, "list", "--check", path], env=NO_KIT), (int(refused), listing(path.stem), ""), path)
+
+    def test_both_outcomes_of_check_are_among_the_examples(self):
+        self.assertEqual({" refusal " in path.read_text() for path in EXAMPLES.glob("*.listing")}, {True, False})
+
+    def test_from_any_folder_and_standard_input(self):
+        day = (EXAMPLES / "day.recording").read_bytes()
+        self.assertEqual(result([PTP, "list", "day.recording"], cwd=EXAMPLES), (0, listing("day"), ""))
+        self.assertEqual(result([PTP, "list", "-"], input=day, cwd="/"), (0, listing("day"), ""))
+        self.assertEqual(result([PTP, "list"], input=day, cwd="/"), (0, listing("day"), ""))
+
+    def test_an_empty_recording(self):
+        self.assertEqual(result([PTP, "list"], input=b""), (0, "place way kind code tid bytes\nrecords 0 bytes 0\n", ""))
+
+    def test_ask(self):
+        self.assertEqual(result([PTP, "ask"], input=b"response-name 0x2001\nno question\n"), (0, "ok Ok\n?\n", ""))
+
+    def test_wrong_names_what_it_does_not_know(self):
+        for word in ("nowhere", "layout/nothing", "--words"):
+            status, out, said = result([PTP, "wrong", word], env=NO_KIT)
+            self.assertEqual((status, out), (2, ""))
+            self.assertRegex(said, rf"\A[^\n]*{word.split('/')[-1]}[^\n]*\n\Z")
+
+    def test_a_recording_that_grows(self):
+        data = (EXAMPLES / "day.recording").read_bytes()
+        half, expected = len(data) // 2, listing("day").encode()
+        with tempfile.TemporaryDirectory() as folder:
+            grows = pathlib.Path(folder) / "grows"
+            grows.write_bytes(data[:half])
+            started = subprocess.Popen([PTP, "list", "--follow", grows], stdout=subprocess.PIPE, start_new_session=True)
+            seen = read_some(started.stdout)
+            with grows.open("ab") as more:
+                more.write(data[half:])
+            lines = expected[:expected.rindex(b"records ")]
+            while len(seen) < len(lines) and (more := read_some(started.stdout)):
+                seen += more
+            os.killpg(started.pid, signal.SIGINT)
+            started.wait(10)
+            seen += started.stdout.read()
+            started.stdout.close()
+        self.assertEqual(seen, lines)
+
+
+if __name__ == "__main__":
+    unittest.main()
