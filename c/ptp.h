@@ -183,8 +183,11 @@ int64_t ptp_tidy_property(const uint8_t *s, size_t s_len, uint8_t *out, size_t o
 /* ---- transactions ---- */
 
 /* A Command container with at most five parameters; where with_data is true, the Data container with the data right behind it, be they
- * no bytes; else the data are not looked at. Answers how many bytes. *number is the session's transaction number, 0 in a fresh one: the
- * command uses it, and after success it is the next one's. Refusals, which use no number: COUNT, ROOM. */
+ * no bytes; else the data are not looked at. Answers how many bytes. *number is the session's state: 0 where it is closed, as a fresh one
+ * is, else its next transaction number. OpenSession (0x1002) is sent with 0, and makes it 1, whatever it was. A closed session sends any
+ * other command with 0, and stays closed. An open one sends *number: CloseSession (0x1003) makes it 0, any other command one more, and 1
+ * after 4,294,967,294 or above. The number that was sent stands in bytes 8 to 11 of the output, the lowest first. Refusals, which leave
+ * *number: COUNT, ROOM. */
 int64_t ptp_command(uint32_t *number, uint16_t code, const uint32_t *params, size_t params_len, const uint8_t *data, size_t data_len,
                     bool with_data, uint8_t *out, size_t out_len);
 

@@ -7,7 +7,7 @@
 #include <stdlib.h>
 #include <string.h>
 
-enum { LONGEST = 1200000 };
+enum { LONGEST = 1200000, MOST_PARAMS = 4096, MOST_WORDS = 6 };
 
 static char line[LONGEST + 2];
 static uint8_t first[LONGEST], second[LONGEST]; /* the bytes of a question's last words */
@@ -18,6 +18,28 @@ static size_t read_bytes(const char *word, uint8_t *bytes)
     unsigned byte;
     for (; sscanf(word, "%2x", &byte) == 1 && *word != '-'; word += 2)
         bytes[len++] = (uint8_t)byte;
+    return len;
+}
+
+/* A number and, where the list goes on, the comma behind it. Zeros in front make it no octal one. */
+static uint32_t read_number(const char **at)
+{
+    char *end;
+    uint32_t number = (uint32_t)strtoul(*at, &end, strncmp(*at, "0x", 2) == 0 ? 16 : 10);
+    *at = end + (*end == ',');
+    return number;
+}
+
+static uint32_t number_of(const char *word)
+{
+    return read_number(&word);
+}
+
+static size_t read_list(const char *word, uint32_t *list)
+{
+    size_t len = 0;
+    while (*word != '-' && *word)
+        list[len++] = read_number(&word);
     return len;
 }
 
@@ -221,6 +243,29 @@ static void newer(const uint8_t *s, size_t len, const uint8_t *payload, size_t p
         printf("%02x", part[i]);
 }
 
+/* The number sent is that of the bytes; a refusal that does not leave the session's state is told as no refusal is. */
+static void command(uint32_t state, const char *code, const char *params_word, const char *data_word, const char *room_word)
+{
+    static uint32_t params[MOST_PARAMS];
+    size_t params_len = read_list(params_word, params);
+    size_t len = data_word ? read_bytes(data_word, first) : 0;
+    size_t room = number_of(room_word);
+    uint32_t number = state;
+    memset(second, 0xA5, room);
+    int64_t answer = ptp_command(&number, (uint16_t)number_of(code), params, params_len, first, len, data_word != NULL, second, room);
+    if (answer < 0) {
+        printf("%s %" PRId64, number == state ? "no" : "moved", -answer);
+    } else {
+        printf("ok");
+        print_number(word_at(second + 8, 4));
+        print_number(number);
+        print_number((uint64_t)answer);
+    }
+    printf(room ? " " : " -");
+    for (size_t i = 0; i < room; i++)
+        printf("%02x", second[i]);
+}
+
 static void answer(const uint8_t *s, size_t len, uint32_t number)
 {
     uint64_t x[PTP_ANSWER_NUMBERS];
@@ -274,9 +319,10 @@ static void container(const uint8_t *s, size_t len, uint8_t *lent)
     print_number(x[PTP_RECORD_PAYLOAD_LENGTH]);
 }
 
-static void ask(const char *kind, const char *one, const char *two)
+static void ask(char *const *word)
 {
-    size_t len = read_bytes(one, first);
+    const char *kind = word[0];
+    size_t len = read_bytes(word[1], first);
     if (strcmp(kind, "device") == 0)
         device(first, len);
     else if (strcmp(kind, "object") == 0)
@@ -286,9 +332,13 @@ static void ask(const char *kind, const char *one, const char *two)
     else if (strcmp(kind, "property") == 0)
         property(first, len);
     else if (strcmp(kind, "newer") == 0)
-        newer(first, len, second, read_bytes(two, second));
+        newer(first, len, second, read_bytes(word[2], second));
+    else if (strcmp(kind, "command") == 0)
+        command(number_of(word[1]), word[2], word[3], NULL, word[4]);
+    else if (strcmp(kind, "command-data") == 0)
+        command(number_of(word[1]), word[2], word[3], word[4], word[5]);
     else if (strcmp(kind, "answer") == 0)
-        answer(second, read_bytes(two, second), (uint32_t)strtoul(one, NULL, 0));
+        answer(second, read_bytes(word[2], second), number_of(word[1]));
     else if (strcmp(kind, "record") == 0)
         record(first, len);
     else if (strcmp(kind, "container") == 0)
@@ -297,11 +347,15 @@ static void ask(const char *kind, const char *one, const char *two)
 
 int main(void)
 {
+    static char none[] = "";
     while (fgets(line, sizeof line, stdin)) {
-        const char *kind = strtok(line, " \n");
-        const char *one = strtok(NULL, " \n");
-        const char *two = strtok(NULL, " \n");
-        ask(kind, one, two ? two : "");
+        char *word[MOST_WORDS];
+        for (size_t i = 0; i < MOST_WORDS; i++) {
+            word[i] = strtok(i ? NULL : line, " \n");
+            if (!word[i])
+                word[i] = none;
+        }
+        ask(word);
         printf("\n");
     }
     return 0;

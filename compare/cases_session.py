@@ -12,6 +12,10 @@ KINDS = [0, 1, 2, 3, 4, 5, 6, 255, 256, 257, 259, 0xFFFF]
 # Around the Rust's first read of 8 KiB.
 LONG_TOTALS = [8191, 8192, 8193, 8204, 16384, 20000]
 RARE = 0.002
+# The states and codes at which the numbers' rule turns, with their neighbours.
+STATES = [0, 1, 2, 0xFFFFFFFD, 0xFFFFFFFE, 0xFFFFFFFF]
+SESSION_CODES = [session.OPEN_SESSION, session.CLOSE_SESSION]
+NEAR_CODES = [0x1001, *SESSION_CODES, 0x1004]
 
 
 def head(length, kind, code, number):
@@ -65,7 +69,11 @@ def one_write_container(rng):
 
 
 def state(rng):
-    return rng.choice([0, 1, 0xFFFFFFFE, 0xFFFFFFFF]) if rng.random() < 0.2 else u32(rng)
+    return rng.choice(STATES) if rng.random() < 0.2 else u32(rng)
+
+
+def command_code(rng):
+    return rng.choice(SESSION_CODES) if rng.random() < 0.2 else rng.getrandbits(16)
 
 
 def parameters(rng):
@@ -73,32 +81,38 @@ def parameters(rng):
 
 
 def short_command(rng):
-    for number, count in itertools.product((0, 0xFFFFFFFE, 0xFFFFFFFF), (*range(9), 300)):
+    for number, code, room in itertools.product(STATES, NEAR_CODES, (HEADER - 1, HEADER)):
+        yield f"command {number} {code} - {room}"
+    for (number, code), count in itertools.product(((0, 4098), (7, 4100), (0xFFFFFFFE, 4100)), (*range(9), 300)):
         need = HEADER + 4 * count
         for room in (0, need, need - 1, need + 1):
-            yield f"command {number} 4098 {listed(range(count))} {room}"
+            yield f"command {number} {code} {listed(range(count))} {room}"
 
 
 def one_command(rng):
-    number, code, given = state(rng), rng.getrandbits(16), parameters(rng)
+    number, code, given = state(rng), command_code(rng), parameters(rng)
     room = room_for(rng, lambda: session.command(number, code, given).output)
     return f"command {number} {code} {listed(given)} {room}"
 
 
 def short_command_data(rng):
-    for number, count, length in itertools.product((0, 0xFFFFFFFE, 0xFFFFFFFF), range(8), range(3)):
+    for number, code, room in itertools.product(STATES, NEAR_CODES, (2 * HEADER - 1, 2 * HEADER)):
+        yield f"command-data {number} {code} - - {room}"
+    for number, count, length in itertools.product((0, 7, 0xFFFFFFFE), range(8), range(3)):
         need = 2 * HEADER + 4 * count + length
         for room in (0, need - length - 1, need, need - 1, need + 1, HEADER + 4 * count):
             yield f"command-data {number} 4118 {listed(range(count))} {hexed(bytes(length))} {room}"
 
 
 def one_command_data(rng):
-    number, code, given, payload = state(rng), rng.getrandbits(16), parameters(rng), some_bytes(rng, 16)
+    number, code, given, payload = state(rng), command_code(rng), parameters(rng), some_bytes(rng, 16)
     room = room_for(rng, lambda: session.command_with_data(number, code, given, payload).output)
     return f"command-data {number} {code} {listed(given)} {hexed(payload)} {room}"
 
 
 def short_call(rng):
+    for name, number in itertools.product(session.CALLS, STATES):
+        yield f"call {name} {number} 65537 0 1 24"
     for name, handle, wanted in itertools.product(session.CALLS, (0, 1, 0xFFFFFFFF), (0, 0x3801)):
         for room in (11, 12, 15, 16, 23, 24, 25):
             yield f"call {name} 7 65537 {wanted} {handle} {room}"

@@ -3,10 +3,11 @@
 A rule tests the question, never an answer.
 """
 
-from model import ask, tree, values
+from model import ask, names, session, tree, values
 from model.containers import COMMAND, EVENT, HEADER, MOST_PARAMETERS, RESPONSE
 
-LAST_NUMBER = 0xFFFFFFFF
+# After this number the Rust's next has no room.
+FULL = 0xFFFFFFFF
 MALFORMED = "malformed"
 # The Rust's walk copies every subtree: of names longer than this in all it would hold a gigabyte.
 MOST_NAME_BYTES = 100_000
@@ -74,7 +75,7 @@ def container(data, at=0):
 
 def answer(number, data):
     """Container by container, up to the one at which the search stops."""
-    if number == LAST_NUMBER:
+    if number == FULL:
         return "D8"
     at = 0
     while True:
@@ -91,14 +92,20 @@ def write_container(kind, *words):
     return None if COMMAND <= kind <= EVENT else "D14"
 
 
+def numbers(state, code):
+    """The Rust sends every command with the state, and counts one up, as ours does with OpenSession in a closed session, and in an open one with
+    any but these two and the last numbers."""
+    if code == session.OPEN_SESSION:
+        return None if state == 0 else "D8"
+    return "D8" if code == session.CLOSE_SESSION or not 0 < state < session.LAST_NUMBER else None
+
+
 def command(state, code, parameters, *words):
-    if len(parameters) > MOST_PARAMETERS:
-        return "D9"
-    return "D8" if state == LAST_NUMBER else None
+    return "D9" if len(parameters) > MOST_PARAMETERS else numbers(state, code)
 
 
 def call(name, state, *words):
-    return "D8" if state == LAST_NUMBER else None
+    return numbers(state, names.command_code(name))
 
 
 def on_tree(handles, parents, ends, names, *words):

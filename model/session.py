@@ -1,4 +1,4 @@
-"""Transactions and camera calls ("Transactions", "Camera calls" of document 01)."""
+"""Transactions and camera calls ("Transactions", "Camera calls" of document 01, its numbers as request 1 of document 02 mends them)."""
 
 from collections import namedtuple
 
@@ -10,9 +10,11 @@ from model.values import expect_end, read_array, read_number
 
 OK = 0x2001
 UINT32 = 0x0006
-NUMBERS = 1 << 32
+OPEN_SESSION = 0x1002
+CLOSE_SESSION = 0x1003
+LAST_NUMBER = 4_294_967_294
 
-# What one made command is: its number, the session's next number, and the bytes to send.
+# What one made command is: its number, the session's state after it, and the bytes to send.
 Made = namedtuple("Made", "number next_state output")
 
 # What the search for an answer finds: the last Data payload for a Response Ok, else the Response's code.
@@ -33,19 +35,26 @@ CALLS = {
 }
 
 
-def next_number(number):
-    """"The next is one more; after 4,294,967,295 comes 0"."""
-    return (number + 1) % NUMBERS
+def turn(state, code):
+    """The number that is sent, and the state after it: 0 in a closed session, in an open one its next number."""
+    if code == OPEN_SESSION:
+        return 0, 1
+    if state == 0:
+        return 0, 0
+    if code == CLOSE_SESSION:
+        return state, 0
+    return state, state + 1 if state < LAST_NUMBER else 1
 
 
 def command(state, code, parameters):
-    return Made(state, next_number(state), write_command(code, state, parameters))
+    number, next_state = turn(state, code)
+    return Made(number, next_state, write_command(code, number, parameters))
 
 
 def command_with_data(state, code, parameters, payload):
     """The Command, then its Data container with the same number, in one output."""
     made = command(state, code, parameters)
-    return made._replace(output=made.output + write_container(DATA, code, state, payload))
+    return made._replace(output=made.output + write_container(DATA, code, made.number, payload))
 
 
 def call(name, state, storage, wanted, handle):

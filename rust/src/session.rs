@@ -26,31 +26,35 @@ pub mod StandardResponseCode {
     pub const Ok: u16 = 0x2001;
 }
 
-/// A command that was made: the number that it used, and its bytes.
+/// A command that was made: the number that it was sent with, which its answer carries, and its bytes.
 #[derive(Clone, Copy, Debug, PartialEq, Eq)]
 pub struct Made<'o> {
     pub number: u32,
     pub bytes: &'o [u8],
 }
 
-/// Counts a session's transaction numbers. A command uses the present one; after 4,294,967,295 comes 0. A refused command uses none.
+/// Counts a session's transaction numbers. Its state is one number: 0 where it is closed, as a fresh one is, else the next command's.
+///
+/// OpenSession is sent with 0, and 1 comes next, also where the session is open. A closed session sends any other command with 0, and stays
+/// closed. An open one sends its number: CloseSession closes it, after any other comes one more, and 1 after 4,294,967,294 or above. Both
+/// commands are known by their code. A refused command leaves the state. The number that was sent is `Made::number`.
 #[derive(Clone, Debug, Default, PartialEq, Eq)]
 pub struct Session {
     number: u32,
 }
 
 impl Session {
-    /// A fresh session, whose number is 0.
+    /// A fresh session, which is closed.
     pub const fn new() -> Session {
         Session::at(0)
     }
 
-    /// A session that goes on at a number.
+    /// An open session that goes on at a number; at 0 a closed one.
     pub const fn at(number: u32) -> Session {
         Session { number }
     }
 
-    /// The number of the next command.
+    /// The number of the next command, unless that is OpenSession, which has 0; 0 where the session is closed.
     pub const fn number(&self) -> u32 {
         self.number
     }
@@ -72,9 +76,9 @@ impl Session {
     }
 
     fn make<'o>(&mut self, code: u16, params: &[u32], data: Option<&[u8]>, out: &'o mut [u8]) -> Result<Made<'o>, Refusal> {
-        let number = self.number;
         let count = archive::command(&mut self.number, code, params, data, out)?;
-        Ok(Made { number, bytes: &out[..count] })
+        let bytes = &out[..count];
+        Ok(Made { number: u32::from_le_bytes([bytes[8], bytes[9], bytes[10], bytes[11]]), bytes })
     }
 }
 

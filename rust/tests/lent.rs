@@ -71,18 +71,11 @@ fn data_of_no_bytes_is_not_no_data() {
 #[test]
 fn refused_command_uses_no_number() {
     let mut out = [KEPT; 64];
-    let mut session = Session::new();
+    let mut session = Session::at(7);
     assert_eq!(session.command(0x1001, &[1, 2, 3, 4, 5, 6], &mut out), Err(Refusal::COUNT));
-    assert_eq!((session.number(), out), (0, [KEPT; 64]));
-    assert_eq!(session.command(0x1001, &[1, 2, 3, 4, 5], &mut out).unwrap().number, 0);
-    assert_eq!(session.number(), 1);
-}
-
-#[test]
-fn numbers_begin_again_after_the_last() {
-    let mut session = Session::at(u32::MAX);
-    assert_eq!(session.close_session(&mut [KEPT; 12]).unwrap().number, u32::MAX);
-    assert_eq!(session.number(), 0);
+    assert_eq!((session.number(), out), (7, [KEPT; 64]));
+    assert_eq!(session.command(0x1001, &[1, 2, 3, 4, 5], &mut out).unwrap().number, 7);
+    assert_eq!(session.number(), 8);
 }
 
 #[test]

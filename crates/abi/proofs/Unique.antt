@@ -47,10 +47,10 @@ one-paths-given t out ends o o′ e e′ r s x y =
     let all = one-paths t out ends (spoken (x .answer)) (spoken (y .answer)) o o′ e e′ (rw says-spoken (x .allows)) (rw says-spoken (y .allows)) in
     (same-word x y (spoken-one (x .answer) (y .answer) (all .0)), all .1, all .2)
 
-pub one-sent : (n : ℕ) (said : ℕ → Said) (old new new′ : List ℕ) (n′ n″ r s : ℕ)
-    → Tells (Sent n said old n′ new) r → Tells (Sent n said old n″ new′) s → (r ≡ s) × (n′ ≡ n″) × (new ≡ new′)
-one-sent n said old new new′ n′ n″ r s x y =
+pub one-sent : (n code : ℕ) (said : ℕ → Said) (old new new′ : List ℕ) (n′ n″ r s : ℕ)
+    → Tells (Sent n code said old n′ new) r → Tells (Sent n code said old n″ new′) s → (r ≡ s) × (n′ ≡ n″) × (new ≡ new′)
+one-sent n code said old new new′ n′ n″ r s x y =
     let p = x .allows .makes in
     let q = y .allows .makes in
-    let same : x .answer ≡ y .answer = p .answers ∙ ap (means (λ _. turn (sessionAt n))) (p .wrote .answers ∙ sym (q .wrote .answers)) ∙ sym (q .answers) in
+    let same : x .answer ≡ y .answer = p .answers ∙ ap (means (λ _. turn (sessionAt n) code)) (p .wrote .answers ∙ sym (q .wrote .answers)) ∙ sym (q .answers) in
     (same-word x y same, x .allows .number ∙ ap (numberAfter n) same ∙ sym (y .allows .number), p .wrote .leaves ∙ sym (q .wrote .leaves))

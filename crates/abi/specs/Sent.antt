@@ -1,4 +1,4 @@
--- A command with or without data, by the session's number.
+-- A command with or without data, by the session's number, 0 where it is closed.
 -- Assumes nothing.
 use mathlib.Core.Bool.{Bool}
 use mathlib.Core.List.{List}
@@ -17,12 +17,12 @@ commandDue data? c payload = pick data? (withData c payload) (commandSaid c)
 abbrev pub sessionAt : ℕ → Session
 sessionAt n = record { number = n }
 
--- the session's number after the command: the next one's, or as it was where it was refused
+-- the number of the session after the command, or as it was where it was refused
 abbrev pub numberAfter : ℕ → Answer Turn → ℕ
 numberAfter n (got t count) = t .next .number
 numberAfter n (refused t) = n
 
--- what a command answers and leaves, with the session's number n, and n′ after it
-pub record Sent (n : ℕ) (said : ℕ → Said) (old : List ℕ) (n′ : ℕ) (new : List ℕ) (answer : Answer Turn) : Type 0 where
-  pub makes : Makes (sessionAt n) said old answer new
+-- what a command of this code answers and leaves, with the session's number n, and n′ after it
+pub record Sent (n code : ℕ) (said : ℕ → Said) (old : List ℕ) (n′ : ℕ) (new : List ℕ) (answer : Answer Turn) : Type 0 where
+  pub makes : Makes (sessionAt n) code said old answer new
   pub number : n′ ≡ numberAfter n answer

@@ -20,7 +20,7 @@ fn made(
     with_data: bool,
     out: &mut [u8],
 ) -> Made
-    ensures { λ r. ⌜ Makes (sessionAt number) (commandDue «with_data» (commandOf code (now (params .entry))) (now (payload .entry))) (now (out .entry)) (saysMade r) (now (out .exit)) ⌝ }
+    ensures { λ r. ⌜ Makes (sessionAt number) code (commandDue «with_data» (commandOf code (now (params .entry))) (now (payload .entry))) (now (out .entry)) (saysMade r) (now (out .exit)) ⌝ }
 {
     let session = Session { number };
     if with_data {
@@ -29,7 +29,7 @@ fn made(
     session::command(session, session::command_of(code, params), out)
 }
 
-// The command, with its data behind it where it has any; `number` is the session's, and is the next one's after success.
+// The command, with its data behind it where it has any; `number` is the session's, 0 where it is closed, and that of the session after it on success.
 #[no_mangle]
 pub extern "C" fn ptp_command(
     number: &mut u32,
@@ -39,7 +39,7 @@ pub extern "C" fn ptp_command(
     with_data: bool,
     out: &mut [u8],
 ) -> u64
-    ensures { λ r. ⌜ Tells (Sent (now (number .entry)) (commandDue «with_data» (commandOf code (now (params .entry))) (now (payload .entry))) (now (out .entry)) (now (number .exit)) (now (out .exit))) r ⌝ }
+    ensures { λ r. ⌜ Tells (Sent (now (number .entry)) code (commandDue «with_data» (commandOf code (now (params .entry))) (now (payload .entry))) (now (out .entry)) (now (number .exit)) (now (out .exit))) r ⌝ }
 {
     match made(*number, code, params, payload, with_data, out) {
         Made::Done {

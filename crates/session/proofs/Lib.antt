@@ -3,3 +3,4 @@ pub mod Searched
 pub mod Filled
 pub mod Unique
 pub mod ReadBack
+pub mod Numbers

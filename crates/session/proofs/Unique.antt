@@ -25,9 +25,9 @@ tells-made = retracts back told
     told (made.Done number next count) = refl
     told (made.Refused t) = refl
 
-pub one-made : {x : Session} {said : ℕ → Said} {old new new′ : List ℕ} (r q : Made) → Makes x said old (saysMade r) new → Makes x said old (saysMade q) new′ → (r ≡ q) × (new ≡ new′)
-one-made {x} r q p o = (
-  tells-made r q (p .answers ∙ ap (means (λ _. turn x)) (p .wrote .answers ∙ sym (o .wrote .answers)) ∙ sym (o .answers)),
+pub one-made : {x : Session} {code : ℕ} {said : ℕ → Said} {old new new′ : List ℕ} (r q : Made) → Makes x code said old (saysMade r) new → Makes x code said old (saysMade q) new′ → (r ≡ q) × (new ≡ new′)
+one-made {x} {code} r q p o = (
+  tells-made r q (p .answers ∙ ap (means (λ _. turn x code)) (p .wrote .answers ∙ sym (o .wrote .answers)) ∙ sym (o .answers)),
   p .wrote .leaves ∙ sym (o .wrote .leaves),
 )
 

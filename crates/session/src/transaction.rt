@@ -1,13 +1,20 @@
-// Transactions: a command that is made uses the session's number, and hands on the session after it.
+// Transactions: a command that is made uses the session's number, or 0 where it opens one, and hands on the session after it.
 ghost use mathlib.Core.Path.{_≡_};
 ghost use Rattle.layout.specs.Answer.{means};
 ghost use Rattle.layout.specs.Written.{Wrote, saysWritten};
 ghost use Rattle.wire.specs.Container.{commandSaid};
-ghost use Rattle.session.specs.Transaction.{freshSession, turn, withData, Makes, saysMade};
+ghost use Rattle.session.specs.Transaction.{freshSession, numberSent, turn, withData, Makes, saysMade};
 use layout::Refusal;
 use layout::Written;
 use wire::Command;
 
+const OPEN_SESSION: u16 = 0x1002;
+
+const CLOSE_SESSION: u16 = 0x1003;
+
+const LAST_NUMBER: u32 = 4_294_967_294;
+
+// Closed where its number is 0.
 pub struct Session {
     pub number: u32,
 }
@@ -29,22 +36,40 @@ pub fn fresh() -> Session
     Session { number: 0 }
 }
 
-fn following(session: Session) -> Session
-    ensures { λ r. ⌜ r ≡ (turn session) .next ⌝ }
+fn number_sent(state: u32, code: u16) -> u32
+    ensures { λ r. ⌜ r ≡ numberSent state code ⌝ }
 {
-    Session {
-        number: std::num::wrapping_add_u32(session.number, 1),
+    if code == OPEN_SESSION { 0 } else { state }
+}
+
+fn following(session: Session, code: u16) -> Session
+    ensures { λ r. ⌜ r ≡ (turn session code) .next ⌝ }
+{
+    if code == OPEN_SESSION {
+        return Session { number: 1 };
     }
+    if session.number == 0 {
+        return session;
+    }
+    if code == CLOSE_SESSION {
+        return fresh();
+    }
+    if session.number < LAST_NUMBER {
+        return Session {
+            number: std::num::wrapping_add_u32(session.number, 1),
+        };
+    }
+    Session { number: 1 }
 }
 
 // What was written, as a command made.
-fn with_turn(session: Session, w: Written) -> Made
-    ensures { λ r. ⌜ saysMade r ≡ means (λ _. turn session) (saysWritten w) ⌝ }
+fn with_turn(session: Session, code: u16, w: Written) -> Made
+    ensures { λ r. ⌜ saysMade r ≡ means (λ _. turn session code) (saysWritten w) ⌝ }
 {
     match w {
         Written::Done(count) => Made::Done {
-            number: session.number,
-            next: following(session),
+            number: number_sent(session.number, code),
+            next: following(session, code),
             count,
         },
         Written::Refused(f) => Made::Refused(f),
@@ -52,10 +77,11 @@ fn with_turn(session: Session, w: Written) -> Made
 }
 
 pub fn command(session: Session, c: Command, out: &mut [u8]) -> Made
-    ensures { λ r. ⌜ Makes session (commandSaid c) (now (out .entry)) (saysMade r) (now (out .exit)) ⌝ }
+    ensures { λ r. ⌜ Makes session (c .code) (commandSaid c) (now (out .entry)) (saysMade r) (now (out .exit)) ⌝ }
 {
-    let number = session.number;
-    with_turn(session, wire::write_command(c, number, out))
+    let code = c.code;
+    let number = number_sent(session.number, code);
+    with_turn(session, code, wire::write_command(c, number, out))
 }
 
 // The command's bytes are made apart, and its data are written first where they are to stand:
@@ -79,8 +105,9 @@ fn write_both(c: Command, number: u32, payload: &[u8], out: &mut [u8]) -> Writte
 
 // The command, and its data behind it.
 pub fn command_with_data(session: Session, c: Command, payload: &[u8], out: &mut [u8]) -> Made
-    ensures { λ r. ⌜ Makes session (withData c (now (payload .entry))) (now (out .entry)) (saysMade r) (now (out .exit)) ⌝ }
+    ensures { λ r. ⌜ Makes session (c .code) (withData c (now (payload .entry))) (now (out .entry)) (saysMade r) (now (out .exit)) ⌝ }
 {
-    let number = session.number;
-    with_turn(session, write_both(c, number, payload, out))
+    let code = c.code;
+    let number = number_sent(session.number, code);
+    with_turn(session, code, write_both(c, number, payload, out))
 }

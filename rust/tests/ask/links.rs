@@ -2,24 +2,24 @@
 use super::{show, words};
 use ptp_proved::{find_answer, read_record, Answer, Made, ObjectTable, PtpRecord, Refusal, Session};
 
-fn made(number: u32, session: Session, made: Result<usize, Refusal>, out: &[u8]) -> String {
+// The session that was asked, at its state before; and what it made: the number sent, and how many bytes.
+fn made(state: u32, session: Session, made: Result<(u32, usize), Refusal>, out: &[u8]) -> String {
     match made {
-        Ok(count) => format!("ok {number} {} {count} {}", session.number(), show::bytes(out)),
+        Ok((number, count)) => format!("ok {number} {} {count} {}", session.number(), show::bytes(out)),
         Err(why) => {
-            assert_eq!(session.number(), number, "a refused command used a number");
+            assert_eq!(session.number(), state, "a refused command moved the state");
             format!("{} {}", show::refusal(why), show::bytes(out))
         }
     }
 }
 
-// The bytes that a command says it made must be the front of what it was lent.
-fn count(number: u32, made: Made) -> usize {
-    assert_eq!(made.number, number);
-    made.bytes.len()
+// The bytes that a command says it made are the front of what it was lent.
+fn told(made: Made) -> (u32, usize) {
+    (made.number, made.bytes.len())
 }
 
 pub fn command(state: &str, code: &str, params: &str, data: Option<&str>, room: &str) -> Option<String> {
-    let number = words::half(state)?;
+    let state = words::half(state)?;
     let code = words::short(code)?;
     let params = words::list(params, words::half)?;
     let data = match data {
@@ -27,22 +27,22 @@ pub fn command(state: &str, code: &str, params: &str, data: Option<&str>, room: 
         None => None,
     };
     let mut out = words::room(room)?;
-    let mut session = Session::at(number);
+    let mut session = Session::at(state);
     let answer = match data {
         Some(data) => session.command_with_data(code, &params, &data, &mut out),
         None => session.command(code, &params, &mut out),
     };
-    let answer = answer.map(|made| count(number, made));
-    Some(made(number, session, answer, &out))
+    let answer = answer.map(told);
+    Some(made(state, session, answer, &out))
 }
 
 pub fn call(name: &str, state: &str, ids: [&str; 3], room: &str) -> Option<String> {
-    let number = words::half(state)?;
+    let state = words::half(state)?;
     let [storage, filter, handle] = ids.map(words::half);
     let (storage, filter, handle) = (storage?, filter?, handle?);
     let some_filter = if filter == 0 { None } else { Some(filter) };
     let mut out = words::room(room)?;
-    let mut session = Session::at(number);
+    let mut session = Session::at(state);
     let answer = match name {
         "GetDeviceInfo" => session.get_device_info(&mut out),
         "OpenSession" => session.open_session(&mut out),
@@ -55,8 +55,8 @@ pub fn call(name: &str, state: &str, ids: [&str; 3], room: &str) -> Option<Strin
         "GetObject" => session.get_object(handle, &mut out),
         _ => return None,
     };
-    let answer = answer.map(|made| count(number, made));
-    Some(made(number, session, answer, &out))
+    let answer = answer.map(told);
+    Some(made(state, session, answer, &out))
 }
 
 pub fn answer(number: &str, s: &str) -> Option<String> {
