@@ -27,13 +27,6 @@ fn made(m: Made) -> Told {
     }
 }
 
-fn number_at(list: &[u32], i: usize) -> u32 {
-    if i < list.len() {
-        return list[i];
-    }
-    0
-}
-
 // As many parameters as are given, of which only five have a place.
 fn command_of(a: Args, numbers: &[u32]) -> Command {
     session::command_of(
