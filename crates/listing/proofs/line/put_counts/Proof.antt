@@ -1,29 +1,62 @@
--- `listing::line::put_counts`: five pieces in a row. Assumes nothing.
-use Rattle.names.specs.Names.{spelled}
-use Rattle.listing.specs.Lines.{decimal, countsText}
-use Rattle.listing.proofs.Pieces.{row5}
 use borrow.Author.Needs.{needs}
 use Rattle.listing.proofs.line.put_counts.Statement.{statement}
 use Rattle.listing.proofs.line.put_counts.Tie as tie
+use Rattle.listing.proofs.line.put_counts.Reads as reads
+use Rattle.listing.proofs.line.put_counts.Lts as lts
+use Rattle.listing.proofs.decimal.put.Reads as put-reads
+use Rattle.listing.proofs.line.put_bytes.Reads as put-bytes-reads
 
+-- src/line.rt:116:23
+slice-aggregate-put-bytes : tie.Need-slice-aggregate-put-bytes
+slice-aggregate-put-bytes c = search needs
+
+-- src/line.rt:116:9
+put-bytes-requires : tie.Need-put-bytes-requires
+put-bytes-requires c κs = ?
+
+-- src/line.rt:117:9
+put-requires : tie.Need-put-requires
+put-requires c κs = ?
+
+-- src/line.rt:118:23
+slice-aggregate-put-bytes-2 : tie.Need-slice-aggregate-put-bytes-2
+slice-aggregate-put-bytes-2 c = search needs
+
+-- src/line.rt:118:9
+put-bytes-requires-2 : tie.Need-put-bytes-requires-2
+put-bytes-requires-2 c κs = ?
+
+-- src/line.rt:119:9
+put-requires-2 : tie.Need-put-requires-2
+put-requires-2 c κs = ?
+
+-- src/line.rt:120:15
+slice-aggregate-put-bytes-3 : tie.Need-slice-aggregate-put-bytes-3
+slice-aggregate-put-bytes-3 c = search needs
+
+-- src/line.rt:120:5
+put-bytes-requires-3 : tie.Need-put-bytes-requires-3
+put-bytes-requires-3 c κs = ?
+
+-- src/line.rt:112:1
+same-length : tie.Need-same-length
+same-length c = search needs
+
+-- src/line.rt:112:1
 returns : tie.Need-returns
-unfolding countsText
-returns c =
-    let k = c .before .before .before .before .before .before .before .before .before .before .before .before .before .before .before .before .before .before .before .before .before .before .before .before in
-    row5 (spelled " ") (decimal (k .args .number)) (spelled " ") (decimal (k .args .count)) (spelled "\n") (k .pre) (c .before .before .before .before .before .before .before .before .before .before .before .before .before .before .before .before .before .before .before .before .copy .ensures) (c .before .before .before .before .before .before .before .before .before .before .before .before .before .before .before .before .put .ensures)
-    (c .before .before .before .before .before .before .before .before .before .before .before .copy2 .ensures) (c .before .before .before .before .before .before .before .put2 .ensures) (c .before .before .copy3 .ensures)
+returns c = ?
 
 pub put-counts-spec : {M : Type 1} → statement M
 put-counts-spec =
     tie.close
     (tie.spec
-    (λ c. search needs)
-    (λ c κs. search needs)
-    (λ c κs. search needs)
-    (λ c. search needs)
-    (λ c κs. search needs)
-    (λ c κs. search needs)
-    (λ c. search needs)
-    (λ c κs. search needs)
-    (λ c. search needs)
+    slice-aggregate-put-bytes
+    put-bytes-requires
+    put-requires
+    slice-aggregate-put-bytes-2
+    put-bytes-requires-2
+    put-requires-2
+    slice-aggregate-put-bytes-3
+    put-bytes-requires-3
+    same-length
     returns)

@@ -1,32 +1,62 @@
--- `listing::line::put_ending`: five pieces in a row. Assumes nothing.
-use Rattle.names.specs.Names.{spelled}
-use Rattle.listing.specs.Lines.{decimal, ending}
-use Rattle.listing.proofs.Fitting.{ending-room, ending-placed}
-use Rattle.listing.proofs.Pieces.{row5}
 use borrow.Author.Needs.{needs}
 use Rattle.listing.proofs.line.put_ending.Statement.{statement}
 use Rattle.listing.proofs.line.put_ending.Tie as tie
+use Rattle.listing.proofs.line.put_ending.Reads as reads
+use Rattle.listing.proofs.line.put_ending.Lts as lts
+use Rattle.listing.proofs.decimal.put.Reads as put-reads
+use Rattle.listing.proofs.line.put_bytes.Reads as put-bytes-reads
 
+-- src/line.rt:185:23
+slice-aggregate-put-bytes : tie.Need-slice-aggregate-put-bytes
+slice-aggregate-put-bytes c = search needs
+
+-- src/line.rt:185:9
+put-bytes-requires : tie.Need-put-bytes-requires
+put-bytes-requires c κs = search needs
+
+-- src/line.rt:186:9
+put-requires : tie.Need-put-requires
+put-requires c κs = ?
+
+-- src/line.rt:187:23
+slice-aggregate-put-bytes-2 : tie.Need-slice-aggregate-put-bytes-2
+slice-aggregate-put-bytes-2 c = search needs
+
+-- src/line.rt:187:9
+put-bytes-requires-2 : tie.Need-put-bytes-requires-2
+put-bytes-requires-2 c κs = ?
+
+-- src/line.rt:188:9
+put-requires-2 : tie.Need-put-requires-2
+put-requires-2 c κs = ?
+
+-- src/line.rt:189:15
+slice-aggregate-put-bytes-3 : tie.Need-slice-aggregate-put-bytes-3
+slice-aggregate-put-bytes-3 c = search needs
+
+-- src/line.rt:189:5
+put-bytes-requires-3 : tie.Need-put-bytes-requires-3
+put-bytes-requires-3 c κs = ?
+
+-- src/line.rt:181:1
+same-length : tie.Need-same-length
+same-length c = search needs
+
+-- src/line.rt:181:1
 returns : tie.Need-returns
-unfolding ending
-returns c =
-    let k = c .before .before .before .before .before .before .before .before .before .before .before .before .before .before .before .before .before .before .before .before .before .before .before .before in
-    ending-placed (k .fits .records .fits) (k .fits .count .fits)
-    (row5 (spelled "records ") (decimal (k .args .records)) (spelled " bytes ") (decimal (k .args .count)) (spelled "\n")
-    (ending-room (k .args .records) (k .args .count) _ (k .fits .records .fits) (k .fits .count .fits) (k .pre)) (c .before .before .before .before .before .before .before .before .before .before .before .before .before .before .before .before .before .before .before .before .copy .ensures)
-    (c .before .before .before .before .before .before .before .before .before .before .before .before .before .before .before .before .put .ensures) (c .before .before .before .before .before .before .before .before .before .before .before .copy2 .ensures) (c .before .before .before .before .before .before .before .put2 .ensures) (c .before .before .copy3 .ensures))
+returns c = ?
 
 pub put-ending-spec : {M : Type 1} → statement M
 put-ending-spec =
     tie.close
     (tie.spec
-    (λ c. search needs)
-    (λ c κs. search needs)
-    (λ c κs. search needs)
-    (λ c. search needs)
-    (λ c κs. search needs)
-    (λ c κs. search needs)
-    (λ c. search needs)
-    (λ c κs. search needs)
-    (λ c. search needs)
+    slice-aggregate-put-bytes
+    put-bytes-requires
+    put-requires
+    slice-aggregate-put-bytes-2
+    put-bytes-requires-2
+    put-requires-2
+    slice-aggregate-put-bytes-3
+    put-bytes-requires-3
+    same-length
     returns)

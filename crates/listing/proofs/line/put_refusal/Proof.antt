@@ -1,28 +1,58 @@
--- `listing::line::put_refusal`: four pieces in a row. Assumes nothing.
-use Rattle.names.specs.Names.{spelled}
-use Rattle.listing.specs.Lines.{decimal, refusalLine}
-use Rattle.listing.proofs.Pieces.{row4}
 use borrow.Author.Needs.{needs}
 use Rattle.listing.proofs.line.put_refusal.Statement.{statement}
 use Rattle.listing.proofs.line.put_refusal.Tie as tie
+use Rattle.listing.proofs.line.put_refusal.Reads as reads
+use Rattle.listing.proofs.line.put_refusal.Lts as lts
+use Rattle.listing.proofs.decimal.put.Reads as put-reads
+use Rattle.listing.proofs.decimal.put_place.Reads as put-place-reads
+use Rattle.listing.proofs.line.put_bytes.Reads as put-bytes-reads
 
+-- src/line.rt:156:9
+put-place-requires : tie.Need-put-place-requires
+put-place-requires c κs = ?
+
+-- src/line.rt:157:23
+slice-aggregate-put-bytes : tie.Need-slice-aggregate-put-bytes
+slice-aggregate-put-bytes c = search needs
+
+-- src/line.rt:157:9
+put-bytes-requires : tie.Need-put-bytes-requires
+put-bytes-requires c κs = ?
+
+-- src/line.rt:158:26
+cast-put : tie.Need-cast-put
+cast-put c = search needs
+
+-- src/line.rt:158:9
+put-requires : tie.Need-put-requires
+put-requires c κs = ?
+
+-- src/line.rt:159:15
+slice-aggregate-put-bytes-2 : tie.Need-slice-aggregate-put-bytes-2
+slice-aggregate-put-bytes-2 c = search needs
+
+-- src/line.rt:159:5
+put-bytes-requires-2 : tie.Need-put-bytes-requires-2
+put-bytes-requires-2 c κs = ?
+
+-- src/line.rt:152:1
+same-length : tie.Need-same-length
+same-length c = search needs
+
+-- src/line.rt:152:1
 returns : tie.Need-returns
-unfolding refusalLine
-returns c =
-    let k = c .before .before .before .before .before .before .before .before .before .before .before .before .before .before .before .before .before .before .before .before in
-    row4 (decimal (k .args .place)) (spelled " refusal ") (decimal (k .args .f .no)) (spelled "\n") (k .pre) (c .before .before .before .before .before .before .before .before .before .before .before .before .before .before .before .before .before .put .ensures) (c .before .before .before .before .before .before .before .before .before .before .before .before .copy .ensures)
-    (c .before .before .before .before .before .before .before .put2 .ensures) (c .before .before .copy2 .ensures)
+returns c = ?
 
 pub put-refusal-spec : {M : Type 1} → statement M
 put-refusal-spec =
     tie.close
     (tie.spec
-    (λ c κs. search needs)
-    (λ c. search needs)
-    (λ c κs. search needs)
-    (λ c. search needs)
-    (λ c κs. search needs)
-    (λ c. search needs)
-    (λ c κs. search needs)
-    (λ c. search needs)
+    put-place-requires
+    slice-aggregate-put-bytes
+    put-bytes-requires
+    cast-put
+    put-requires
+    slice-aggregate-put-bytes-2
+    put-bytes-requires-2
+    same-length
     returns)
