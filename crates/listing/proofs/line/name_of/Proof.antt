@@ -1,31 +1,35 @@
+-- `listing::line::name_of`: by the kind, the place in one table, or none. Assumes nothing.
+use borrow.Author.Tests.{eq-eqb, ne-eqb}
+use Rattle.names.proofs.laws.Spells.{response-spells, command-spells, response-inside, command-inside}
+use Rattle.listing.specs.Lines.{nameFor}
 use borrow.Author.Needs.{needs}
 use Rattle.listing.proofs.line.name_of.Statement.{statement}
 use Rattle.listing.proofs.line.name_of.Tie as tie
-use Rattle.listing.proofs.line.name_of.Reads as reads
-use Rattle.listing.proofs.line.name_of.Lts as lts
-use Rattle.names.proofs.command_name.Reads as command-name-reads
-use Rattle.names.proofs.response_name.Reads as response-name-reads
 
--- src/line.rt:94:9
-response-name-requires : tie.Need-response-name-requires
-response-name-requires c κs = search needs
-
--- src/line.rt:94:9
 returns : tie.Need-returns
-returns c = ?
+unfolding nameFor
+returns c =
+    let a = c .before .before .args in
+    rw (eq-eqb (a .kind) 3 (c .before .if1 .taken), c .response-name .ensures) (response-spells (a .code), response-inside (a .code))
 
--- src/line.rt:97:9
 returns-2 : tie.Need-returns-2
-returns-2 c = ?
+unfolding nameFor
+returns-2 c =
+    let k = c .before .before .args .kind in
+    (rw (ne-eqb k 3 (c .before .if1 .left), eq-eqb k 4 (c .if2 .taken)), tt)
 
--- src/line.rt:99:5
-command-name-requires : tie.Need-command-name-requires
-command-name-requires c κs = search needs
-
--- src/line.rt:90:1
 returns-3 : tie.Need-returns-3
-returns-3 c = ?
+unfolding nameFor
+returns-3 c =
+    let a = c .before .before .before .args in
+    rw (ne-eqb (a .kind) 3 (c .before .before .if1 .left), ne-eqb (a .kind) 4 (c .before .if2 .left), c .command-name .ensures) (command-spells (a .code), command-inside (a .code))
 
 pub name-of-spec : {M : Type 1} → statement M
 name-of-spec =
-    tie.close (tie.spec response-name-requires returns returns-2 command-name-requires returns-3)
+    tie.close
+    (tie.spec
+    (λ c κs. search needs)
+    returns
+    returns-2
+    (λ c κs. search needs)
+    returns-3)

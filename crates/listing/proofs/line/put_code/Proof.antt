@@ -1,78 +1,44 @@
+-- `listing::line::put_code`: the name that stands at its place, or four digits. Assumes nothing.
+use mathlib.Core.Path.{_≡_, ap}
+use mathlib.Core.Option.{some, none}
+use native.Mathlib.Omega.{arith}
+use lib.ListN.{length, take, drop}
+use Rattle.layout.proofs.laws.Reading.{heard}
+use Rattle.names.specs.Names.{nameBytes, given}
+use Rattle.names.specs.Says.{saysName, bytesAt}
+use Rattle.listing.specs.Lines.{nameFor}
+use Rattle.listing.proofs.Pieces.{code-named, code-nameless}
 use borrow.Author.Needs.{needs}
 use Rattle.listing.proofs.line.put_code.Statement.{statement}
 use Rattle.listing.proofs.line.put_code.Tie as tie
-use Rattle.listing.proofs.line.put_code.Reads as reads
-use Rattle.listing.proofs.line.put_code.Lts as lts
-use Rattle.listing.proofs.line.name_of.Reads as name-of-reads
-use Rattle.listing.proofs.line.put_hex.Reads as put-hex-reads
-use Rattle.listing.proofs.line.put_name.Reads as put-name-reads
 
--- src/line.rt:106:11
-name-of-requires : tie.Need-name-of-requires
-name-of-requires c κs = search needs
-
--- src/line.rt:107:20
-enum-known-start : tie.Need-enum-known-start
-enum-known-start c = search needs
-
--- src/line.rt:107:59
-add-put-name : tie.Need-add-put-name
-add-put-name c = ?
-
--- src/line.rt:107:45
-sub-put-name : tie.Need-sub-put-name
-sub-put-name c = search needs
-
--- src/line.rt:107:45
-part-put-name-start : tie.Need-part-put-name-start
-part-put-name-start c = search needs
-
--- src/line.rt:107:45
-part-put-name-end : tie.Need-part-put-name-end
-part-put-name-end c = ?
-
--- src/line.rt:107:36
-put-name-requires : tie.Need-put-name-requires
-put-name-requires c κs = ?
-
--- src/line.rt:108:37
-enum-told : tie.Need-enum-told
-enum-told c = search needs
-
--- src/line.rt:108:23
 put-hex-requires : tie.Need-put-hex-requires
-put-hex-requires c κs = ?
+put-hex-requires c κs =
+    let a = c .before .before .before .before .before .before .args in
+    let e : none ≡ nameFor (a .kind) (a .code) = heard (λ r. given bytesAt (saysName r)) (c .before .enum-told .given .1) (c .before .before .before .name-of .ensures .0) in
+    rw (code-nameless (a .kind) (a .code) e) at (c .before .before .before .before .before .before .pre .1)
 
--- src/line.rt:102:1
-same-length : tie.Need-same-length
-same-length c = search needs
-
--- src/line.rt:102:1
-returns : tie.Need-returns
-returns c = ?
-
--- src/line.rt:102:1
-same-length-2 : tie.Need-same-length-2
-same-length-2 c = search needs
-
--- src/line.rt:102:1
 returns-2 : tie.Need-returns-2
-returns-2 c = ?
+returns-2 c =
+    let k = c .before .before .before .before in
+    let a = k .before .before .before .before .before .args in
+    let e : none ≡ nameFor (a .kind) (a .code) = heard (λ r. given bytesAt (saysName r)) (k .enum-told .given .1) (k .before .before .name-of .ensures .0) in
+    rw (code-nameless (a .kind) (a .code) e) (c .before .before .put-hex .ensures)
 
 pub put-code-spec : {M : Type 1} → statement M
 put-code-spec =
     tie.close
     (tie.spec
-    name-of-requires
-    enum-known-start
-    add-put-name
-    sub-put-name
-    part-put-name-start
-    part-put-name-end
-    put-name-requires
-    enum-told
+    (λ c κs. search needs)
+    (λ c. search needs)
+    (λ c. ?)
+    (λ c. search needs)
+    (λ c. search needs)
+    (λ c. ?)
+    (λ c κs. ?)
+    (λ c. search needs)
     put-hex-requires
-    same-length
-    returns
-    same-length-2
+    (λ c. search needs)
+    (λ c. ?)
+    (λ c. search needs)
     returns-2)

@@ -1,45 +1,50 @@
+-- `listing::line::put_container`: five pieces in a row, which have room together. Assumes nothing.
+use native.Mathlib.Omega.{arith}
+use Rattle.layout.proofs.laws.Writing.{then, long}
+use Rattle.listing.specs.Lines.{containerLine}
+use Rattle.listing.proofs.Pieces.{container-length}
 use borrow.Author.Needs.{needs}
 use Rattle.listing.proofs.line.put_container.Statement.{statement}
 use Rattle.listing.proofs.line.put_container.Tie as tie
-use Rattle.listing.proofs.line.put_container.Reads as reads
-use Rattle.listing.proofs.line.put_container.Lts as lts
-use Rattle.listing.proofs.decimal.put_place.Reads as put-place-reads
-use Rattle.listing.proofs.line.put_code.Reads as put-code-reads
-use Rattle.listing.proofs.line.put_counts.Reads as put-counts-reads
-use Rattle.listing.proofs.line.put_kind.Reads as put-kind-reads
-use Rattle.listing.proofs.line.put_way.Reads as put-way-reads
 
--- src/line.rt:135:9
 put-place-requires : tie.Need-put-place-requires
-put-place-requires c κs = ?
+put-place-requires c κs =
+    let k = c .before .before .before .before in
+    omega (arith, k .pre .1, container-length (k .args .place) (k .args .kind) (k .args .x))
 
--- src/line.rt:136:9
 put-way-requires : tie.Need-put-way-requires
-put-way-requires c κs = ?
+put-way-requires c κs =
+    let k = c .before .before .before .before .before .before .before .before in
+    let p = c .before .before .before .put-place .ensures in
+    omega (arith, k .pre .1, container-length (k .args .place) (k .args .kind) (k .args .x), p .place, long p)
 
--- src/line.rt:137:9
 put-kind-requires : tie.Need-put-kind-requires
-put-kind-requires c κs = ?
+put-kind-requires c κs =
+    let k = c .before .before .before .before .before .before .before .before .before .before .before .before in
+    let p = c .before .before .before .before .before .before .before .put-place .ensures in
+    let q = c .before .before .before .put-way .ensures in
+    omega (arith, k .pre .1, container-length (k .args .place) (k .args .kind) (k .args .x), p .place, long p, q .place, long q)
 
--- src/line.rt:138:9
 put-code-requires : tie.Need-put-code-requires
-put-code-requires c κs = ?
+put-code-requires c κs =
+    let k = c .before .before .before .before .before .before .before .before .before .before .before .before .before .before .before .before in
+    let p = c .before .before .before .before .before .before .before .before .before .before .before .put-place .ensures in
+    let q = c .before .before .before .before .before .before .before .put-way .ensures in
+    let r = c .before .before .before .put-kind .ensures in
+    (k .pre .0, omega (arith, k .pre .1, container-length (k .args .place) (k .args .kind) (k .args .x), p .place, long p, q .place, long q, r .place, long r))
 
--- src/line.rt:139:16
-cast-put-counts : tie.Need-cast-put-counts
-cast-put-counts c = search needs
-
--- src/line.rt:139:5
 put-counts-requires : tie.Need-put-counts-requires
-put-counts-requires c κs = ?
+put-counts-requires c κs =
+    let k = c .before .before .before .before .before .before .before .before .before .before .before .before .before .before .before .before .before .before .before .before .before in
+    let p = c .before .before .before .before .before .before .before .before .before .before .before .before .before .before .before .before .put-place .ensures in
+    let q = c .before .before .before .before .before .before .before .before .before .before .before .before .put-way .ensures in
+    let r = c .before .before .before .before .before .before .before .before .put-kind .ensures in
+    let s = c .before .before .before .before .put-code .ensures in
+    omega (arith, k .pre .1, container-length (k .args .place) (k .args .kind) (k .args .x), p .place, long p, q .place, long q, r .place, long r, s .place, long s)
 
--- src/line.rt:123:1
-same-length : tie.Need-same-length
-same-length c = search needs
-
--- src/line.rt:123:1
 returns : tie.Need-returns
-returns c = ?
+unfolding containerLine
+returns c = then (then (then (then (c .before .before .before .before .before .before .before .before .before .before .before .before .before .before .before .before .before .before .before .put-place .ensures) (c .before .before .before .before .before .before .before .before .before .before .before .before .before .before .before .put-way .ensures)) (c .before .before .before .before .before .before .before .before .before .before .before .put-kind .ensures)) (c .before .before .before .before .before .before .before .put-code .ensures)) (c .before .before .put-counts .ensures)
 
 pub put-container-spec : {M : Type 1} → statement M
 put-container-spec =
@@ -49,7 +54,7 @@ put-container-spec =
     put-way-requires
     put-kind-requires
     put-code-requires
-    cast-put-counts
+    (λ c. search needs)
     put-counts-requires
-    same-length
+    (λ c. search needs)
     returns)

@@ -1,62 +1,62 @@
+-- `listing::line::put_counts`: five pieces in a row, which have room together. Assumes nothing.
+use native.Mathlib.Omega.{arith}
+use Rattle.layout.proofs.laws.Writing.{then, long}
+use Rattle.listing.specs.Lines.{countsText}
+use Rattle.listing.proofs.Pieces.{counts-length}
 use borrow.Author.Needs.{needs}
 use Rattle.listing.proofs.line.put_counts.Statement.{statement}
 use Rattle.listing.proofs.line.put_counts.Tie as tie
-use Rattle.listing.proofs.line.put_counts.Reads as reads
-use Rattle.listing.proofs.line.put_counts.Lts as lts
-use Rattle.listing.proofs.decimal.put.Reads as put-reads
-use Rattle.listing.proofs.line.put_bytes.Reads as put-bytes-reads
 
--- src/line.rt:116:23
-slice-aggregate-put-bytes : tie.Need-slice-aggregate-put-bytes
-slice-aggregate-put-bytes c = search needs
-
--- src/line.rt:116:9
 put-bytes-requires : tie.Need-put-bytes-requires
-put-bytes-requires c κs = ?
+put-bytes-requires c κs =
+    let k = c .before .before .before in
+    omega (arith, k .pre, counts-length (k .args .number) (k .args .count))
 
--- src/line.rt:117:9
 put-requires : tie.Need-put-requires
-put-requires c κs = ?
+put-requires c κs =
+    let k = c .before .before .before .before .before .before .before in
+    let p = c .before .before .before .put-bytes .ensures in
+    omega (arith, k .pre, counts-length (k .args .number) (k .args .count), p .place, long p)
 
--- src/line.rt:118:23
-slice-aggregate-put-bytes-2 : tie.Need-slice-aggregate-put-bytes-2
-slice-aggregate-put-bytes-2 c = search needs
-
--- src/line.rt:118:9
 put-bytes-requires-2 : tie.Need-put-bytes-requires-2
-put-bytes-requires-2 c κs = ?
+put-bytes-requires-2 c κs =
+    let k = c .before .before .before .before .before .before .before .before .before .before .before .before in
+    let p = c .before .before .before .before .before .before .before .before .put-bytes .ensures in
+    let q = c .before .before .before .before .put .ensures in
+    omega (arith, k .pre, counts-length (k .args .number) (k .args .count), p .place, long p, q .place, long q)
 
--- src/line.rt:119:9
 put-requires-2 : tie.Need-put-requires-2
-put-requires-2 c κs = ?
+put-requires-2 c κs =
+    let k = c .before .before .before .before .before .before .before .before .before .before .before .before .before .before .before .before in
+    let p = c .before .before .before .before .before .before .before .before .before .before .before .before .put-bytes .ensures in
+    let q = c .before .before .before .before .before .before .before .before .put .ensures in
+    let r = c .before .before .before .put-bytes2 .ensures in
+    omega (arith, k .pre, counts-length (k .args .number) (k .args .count), p .place, long p, q .place, long q, r .place, long r)
 
--- src/line.rt:120:15
-slice-aggregate-put-bytes-3 : tie.Need-slice-aggregate-put-bytes-3
-slice-aggregate-put-bytes-3 c = search needs
-
--- src/line.rt:120:5
 put-bytes-requires-3 : tie.Need-put-bytes-requires-3
-put-bytes-requires-3 c κs = ?
+put-bytes-requires-3 c κs =
+    let k = c .before .before .before .before .before .before .before .before .before .before .before .before .before .before .before .before .before .before .before .before .before in
+    let p = c .before .before .before .before .before .before .before .before .before .before .before .before .before .before .before .before .before .put-bytes .ensures in
+    let q = c .before .before .before .before .before .before .before .before .before .before .before .before .before .put .ensures in
+    let r = c .before .before .before .before .before .before .before .before .put-bytes2 .ensures in
+    let s = c .before .before .before .before .put2 .ensures in
+    omega (arith, k .pre, counts-length (k .args .number) (k .args .count), p .place, long p, q .place, long q, r .place, long r, s .place, long s)
 
--- src/line.rt:112:1
-same-length : tie.Need-same-length
-same-length c = search needs
-
--- src/line.rt:112:1
 returns : tie.Need-returns
-returns c = ?
+unfolding countsText
+returns c = then (then (then (then (c .before .before .before .before .before .before .before .before .before .before .before .before .before .before .before .before .before .before .before .before .put-bytes .ensures) (c .before .before .before .before .before .before .before .before .before .before .before .before .before .before .before .before .put .ensures)) (c .before .before .before .before .before .before .before .before .before .before .before .put-bytes2 .ensures)) (c .before .before .before .before .before .before .before .put2 .ensures)) (c .before .before .put-bytes3 .ensures)
 
 pub put-counts-spec : {M : Type 1} → statement M
 put-counts-spec =
     tie.close
     (tie.spec
-    slice-aggregate-put-bytes
+    (λ c. search needs)
     put-bytes-requires
     put-requires
-    slice-aggregate-put-bytes-2
+    (λ c. search needs)
     put-bytes-requires-2
     put-requires-2
-    slice-aggregate-put-bytes-3
+    (λ c. search needs)
     put-bytes-requires-3
-    same-length
+    (λ c. search needs)
     returns)

@@ -1,62 +1,65 @@
+-- `listing::line::put_ending`: five pieces in a row, of at most 64 bytes together. Assumes nothing.
+use native.Mathlib.Omega.{arith}
+use Rattle.layout.proofs.laws.Writing.{then, long}
+use Rattle.listing.specs.Lines.{ending}
+use Rattle.listing.proofs.Fitting.{ending-short, ending-placed}
+use Rattle.listing.proofs.Pieces.{ending-length}
 use borrow.Author.Needs.{needs}
 use Rattle.listing.proofs.line.put_ending.Statement.{statement}
 use Rattle.listing.proofs.line.put_ending.Tie as tie
-use Rattle.listing.proofs.line.put_ending.Reads as reads
-use Rattle.listing.proofs.line.put_ending.Lts as lts
-use Rattle.listing.proofs.decimal.put.Reads as put-reads
-use Rattle.listing.proofs.line.put_bytes.Reads as put-bytes-reads
 
--- src/line.rt:185:23
-slice-aggregate-put-bytes : tie.Need-slice-aggregate-put-bytes
-slice-aggregate-put-bytes c = search needs
-
--- src/line.rt:185:9
 put-bytes-requires : tie.Need-put-bytes-requires
-put-bytes-requires c κs = search needs
+put-bytes-requires c κs =
+    let k = c .before .before .before in
+    omega (arith, k .pre, ending-length (k .args .records) (k .args .count), ending-short (k .args .records) (k .args .count) (k .fits .records .fits) (k .fits .count .fits))
 
--- src/line.rt:186:9
 put-requires : tie.Need-put-requires
-put-requires c κs = ?
+put-requires c κs =
+    let k = c .before .before .before .before .before .before .before in
+    let p = c .before .before .before .put-bytes .ensures in
+    omega (arith, k .pre, ending-length (k .args .records) (k .args .count), ending-short (k .args .records) (k .args .count) (k .fits .records .fits) (k .fits .count .fits), p .place, long p)
 
--- src/line.rt:187:23
-slice-aggregate-put-bytes-2 : tie.Need-slice-aggregate-put-bytes-2
-slice-aggregate-put-bytes-2 c = search needs
-
--- src/line.rt:187:9
 put-bytes-requires-2 : tie.Need-put-bytes-requires-2
-put-bytes-requires-2 c κs = ?
+put-bytes-requires-2 c κs =
+    let k = c .before .before .before .before .before .before .before .before .before .before .before .before in
+    let p = c .before .before .before .before .before .before .before .before .put-bytes .ensures in
+    let q = c .before .before .before .before .put .ensures in
+    omega (arith, k .pre, ending-length (k .args .records) (k .args .count), ending-short (k .args .records) (k .args .count) (k .fits .records .fits) (k .fits .count .fits), p .place, long p, q .place, long q)
 
--- src/line.rt:188:9
 put-requires-2 : tie.Need-put-requires-2
-put-requires-2 c κs = ?
+put-requires-2 c κs =
+    let k = c .before .before .before .before .before .before .before .before .before .before .before .before .before .before .before .before in
+    let p = c .before .before .before .before .before .before .before .before .before .before .before .before .put-bytes .ensures in
+    let q = c .before .before .before .before .before .before .before .before .put .ensures in
+    let r = c .before .before .before .put-bytes2 .ensures in
+    omega (arith, k .pre, ending-length (k .args .records) (k .args .count), ending-short (k .args .records) (k .args .count) (k .fits .records .fits) (k .fits .count .fits), p .place, long p, q .place, long q, r .place, long r)
 
--- src/line.rt:189:15
-slice-aggregate-put-bytes-3 : tie.Need-slice-aggregate-put-bytes-3
-slice-aggregate-put-bytes-3 c = search needs
-
--- src/line.rt:189:5
 put-bytes-requires-3 : tie.Need-put-bytes-requires-3
-put-bytes-requires-3 c κs = ?
+put-bytes-requires-3 c κs =
+    let k = c .before .before .before .before .before .before .before .before .before .before .before .before .before .before .before .before .before .before .before .before .before in
+    let p = c .before .before .before .before .before .before .before .before .before .before .before .before .before .before .before .before .before .put-bytes .ensures in
+    let q = c .before .before .before .before .before .before .before .before .before .before .before .before .before .put .ensures in
+    let r = c .before .before .before .before .before .before .before .before .put-bytes2 .ensures in
+    let s = c .before .before .before .before .put2 .ensures in
+    omega (arith, k .pre, ending-length (k .args .records) (k .args .count), ending-short (k .args .records) (k .args .count) (k .fits .records .fits) (k .fits .count .fits), p .place, long p, q .place, long q, r .place, long r, s .place, long s)
 
--- src/line.rt:181:1
-same-length : tie.Need-same-length
-same-length c = search needs
-
--- src/line.rt:181:1
 returns : tie.Need-returns
-returns c = ?
+unfolding ending
+returns c =
+    let k = c .before .before .before .before .before .before .before .before .before .before .before .before .before .before .before .before .before .before .before .before .before .before .before .before in
+    ending-placed (k .fits .records .fits) (k .fits .count .fits) (then (then (then (then (c .before .before .before .before .before .before .before .before .before .before .before .before .before .before .before .before .before .before .before .before .put-bytes .ensures) (c .before .before .before .before .before .before .before .before .before .before .before .before .before .before .before .before .put .ensures)) (c .before .before .before .before .before .before .before .before .before .before .before .put-bytes2 .ensures)) (c .before .before .before .before .before .before .before .put2 .ensures)) (c .before .before .put-bytes3 .ensures))
 
 pub put-ending-spec : {M : Type 1} → statement M
 put-ending-spec =
     tie.close
     (tie.spec
-    slice-aggregate-put-bytes
+    (λ c. search needs)
     put-bytes-requires
     put-requires
-    slice-aggregate-put-bytes-2
+    (λ c. search needs)
     put-bytes-requires-2
     put-requires-2
-    slice-aggregate-put-bytes-3
+    (λ c. search needs)
     put-bytes-requires-3
-    same-length
+    (λ c. search needs)
     returns)

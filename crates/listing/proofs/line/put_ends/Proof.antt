@@ -1,61 +1,35 @@
+-- `listing::line::put_ends`: the last bytes over the first. Assumes nothing.
+use mathlib.Core.Path.{sym}
+use native.Mathlib.Omega.{arith}
+use denote.Ref.{now}
+use lib.ListN.{length}
+use lib.Seq.{length-take-le}
+use Prim.Native.Nat.{_-_}
+use Rattle.listing.proofs.Ends.{behind, ends}
 use borrow.Author.Needs.{needs}
 use Rattle.listing.proofs.line.put_ends.Statement.{statement}
 use Rattle.listing.proofs.line.put_ends.Tie as tie
-use Rattle.listing.proofs.line.put_ends.Reads as reads
-use Rattle.listing.proofs.line.put_ends.Lts as lts
-use Rattle.listing.proofs.line.put_bytes.Reads as put-bytes-reads
 
--- src/line.rt:31:16
-sub-rest : tie.Need-sub-rest
-sub-rest c = search needs
-
--- src/line.rt:32:15
-slice-aggregate-put-bytes : tie.Need-slice-aggregate-put-bytes
-slice-aggregate-put-bytes c = ?
-
--- src/line.rt:32:5
 put-bytes-requires : tie.Need-put-bytes-requires
-put-bytes-requires c κs = ?
+put-bytes-requires c κs = let k = c .before .before .before .before in omega (arith, k .pre .2, length-take-le (k .args .n) (now (k .args .text)) (k .pre .0))
 
--- src/line.rt:33:15
-sub-put-bytes : tie.Need-sub-put-bytes
-sub-put-bytes c = search needs
-
--- src/line.rt:33:15
-part-put-bytes-start : tie.Need-part-put-bytes-start
-part-put-bytes-start c = search needs
-
--- src/line.rt:33:15
-part-put-bytes-end : tie.Need-part-put-bytes-end
-part-put-bytes-end c = search needs
-
--- src/line.rt:33:35
-add-put-bytes : tie.Need-add-put-bytes
-add-put-bytes c = search needs
-
--- src/line.rt:33:5
-put-bytes-requires-2 : tie.Need-put-bytes-requires-2
-put-bytes-requires-2 c κs = search needs
-
--- src/line.rt:27:1
-same-length : tie.Need-same-length
-same-length c = search needs
-
--- src/line.rt:27:1
 returns : tie.Need-returns
-returns c = ?
+returns c =
+    let k = c .before .before .before .before .before .before .before .before .before .before .before .before in
+    let t = now (k .args .text) in
+    ends (k .pre .0) (k .pre .1) (c .before .before .before .before .before .before .before .put-bytes .ensures) (rw (behind t (length t - k .args .n)) at (c .before .before .put-bytes2 .ensures))
 
 pub put-ends-spec : {M : Type 1} → statement M
 put-ends-spec =
     tie.close
     (tie.spec
-    sub-rest
-    slice-aggregate-put-bytes
+    (λ c. search needs)
+    (λ c. sym (length-take-le (c .before .before .before .args .n) (now (c .before .before .before .args .text)) (c .before .before .before .pre .0)))
     put-bytes-requires
-    sub-put-bytes
-    part-put-bytes-start
-    part-put-bytes-end
-    add-put-bytes
-    put-bytes-requires-2
-    same-length
+    (λ c. search needs)
+    (λ c. search needs)
+    (λ c. search needs)
+    (λ c. search needs)
+    (λ c κs. search needs)
+    (λ c. search needs)
     returns)

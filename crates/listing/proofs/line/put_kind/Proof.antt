@@ -1,91 +1,75 @@
+-- `listing::line::put_kind`: one of four texts. Assumes nothing.
+use borrow.Author.Tests.{eq-eqb, ne-eqb}
+use Rattle.listing.specs.Lines.{kindText}
 use borrow.Author.Needs.{needs}
 use Rattle.listing.proofs.line.put_kind.Statement.{statement}
 use Rattle.listing.proofs.line.put_kind.Tie as tie
-use Rattle.listing.proofs.line.put_kind.Reads as reads
-use Rattle.listing.proofs.line.put_kind.Lts as lts
-use Rattle.listing.proofs.line.put_bytes.Reads as put-bytes-reads
 
--- src/line.rt:78:26
-slice-aggregate-put-bytes : tie.Need-slice-aggregate-put-bytes
-slice-aggregate-put-bytes c = search needs
-
--- src/line.rt:78:9
 put-bytes-requires : tie.Need-put-bytes-requires
-put-bytes-requires c κs = ?
+unfolding kindText
+put-bytes-requires c κs =
+    let k = c .before .before .before .before .args .kind in
+    rw (eq-eqb k 1 (c .before .before .if1 .taken)) at (c .before .before .before .before .pre)
 
--- src/line.rt:78:9
-same-length : tie.Need-same-length
-same-length c = search needs
-
--- src/line.rt:78:9
 returns : tie.Need-returns
-returns c = ?
+unfolding kindText
+returns c =
+    let k = c .before .before .before .before .before .before .before .args .kind in
+    rw (eq-eqb k 1 (c .before .before .before .before .before .if1 .taken)) (c .before .before .put-bytes .ensures)
 
--- src/line.rt:81:26
-slice-aggregate-put-bytes-2 : tie.Need-slice-aggregate-put-bytes-2
-slice-aggregate-put-bytes-2 c = search needs
-
--- src/line.rt:81:9
 put-bytes-requires-2 : tie.Need-put-bytes-requires-2
-put-bytes-requires-2 c κs = ?
+unfolding kindText
+put-bytes-requires-2 c κs =
+    let k = c .before .before .before .before .before .args .kind in
+    rw (ne-eqb k 1 (c .before .before .before .if1 .left), eq-eqb k 2 (c .before .before .if2 .taken)) at (c .before .before .before .before .before .pre)
 
--- src/line.rt:81:9
-same-length-2 : tie.Need-same-length-2
-same-length-2 c = search needs
-
--- src/line.rt:81:9
 returns-2 : tie.Need-returns-2
-returns-2 c = ?
+unfolding kindText
+returns-2 c =
+    let k = c .before .before .before .before .before .before .before .before .args .kind in
+    rw (ne-eqb k 1 (c .before .before .before .before .before .before .if1 .left), eq-eqb k 2 (c .before .before .before .before .before .if2 .taken)) (c .before .before .put-bytes2 .ensures)
 
--- src/line.rt:84:26
-slice-aggregate-put-bytes-3 : tie.Need-slice-aggregate-put-bytes-3
-slice-aggregate-put-bytes-3 c = search needs
-
--- src/line.rt:84:9
 put-bytes-requires-3 : tie.Need-put-bytes-requires-3
-put-bytes-requires-3 c κs = ?
+unfolding kindText
+put-bytes-requires-3 c κs =
+    let k = c .before .before .before .before .before .before .args .kind in
+    rw (ne-eqb k 1 (c .before .before .before .before .if1 .left), ne-eqb k 2 (c .before .before .before .if2 .left), eq-eqb k 3 (c .before .before .if3 .taken)) at (c .before .before .before .before .before .before .pre)
 
--- src/line.rt:84:9
-same-length-3 : tie.Need-same-length-3
-same-length-3 c = search needs
-
--- src/line.rt:84:9
 returns-3 : tie.Need-returns-3
-returns-3 c = ?
+unfolding kindText
+returns-3 c =
+    let k = c .before .before .before .before .before .before .before .before .before .args .kind in
+    rw (ne-eqb k 1 (c .before .before .before .before .before .before .before .if1 .left), ne-eqb k 2 (c .before .before .before .before .before .before .if2 .left), eq-eqb k 3 (c .before .before .before .before .before .if3 .taken)) (c .before .before .put-bytes3 .ensures)
 
--- src/line.rt:86:15
-slice-aggregate-put-bytes-4 : tie.Need-slice-aggregate-put-bytes-4
-slice-aggregate-put-bytes-4 c = search needs
-
--- src/line.rt:86:5
 put-bytes-requires-4 : tie.Need-put-bytes-requires-4
-put-bytes-requires-4 c κs = ?
+unfolding kindText
+put-bytes-requires-4 c κs =
+    let k = c .before .before .before .before .before .before .args .kind in
+    rw (ne-eqb k 1 (c .before .before .before .before .if1 .left), ne-eqb k 2 (c .before .before .before .if2 .left), ne-eqb k 3 (c .before .before .if3 .left)) at (c .before .before .before .before .before .before .pre)
 
--- src/line.rt:73:1
-same-length-4 : tie.Need-same-length-4
-same-length-4 c = search needs
-
--- src/line.rt:73:1
 returns-4 : tie.Need-returns-4
-returns-4 c = ?
+unfolding kindText
+returns-4 c =
+    let k = c .before .before .before .before .before .before .before .before .before .args .kind in
+    rw (ne-eqb k 1 (c .before .before .before .before .before .before .before .if1 .left), ne-eqb k 2 (c .before .before .before .before .before .before .if2 .left), ne-eqb k 3 (c .before .before .before .before .before .if3 .left)) (c .before .before .put-bytes4 .ensures)
 
 pub put-kind-spec : {M : Type 1} → statement M
 put-kind-spec =
     tie.close
     (tie.spec
-    slice-aggregate-put-bytes
+    (λ c. search needs)
     put-bytes-requires
-    same-length
+    (λ c. search needs)
     returns
-    slice-aggregate-put-bytes-2
+    (λ c. search needs)
     put-bytes-requires-2
-    same-length-2
+    (λ c. search needs)
     returns-2
-    slice-aggregate-put-bytes-3
+    (λ c. search needs)
     put-bytes-requires-3
-    same-length-3
+    (λ c. search needs)
     returns-3
-    slice-aggregate-put-bytes-4
+    (λ c. search needs)
     put-bytes-requires-4
-    same-length-4
+    (λ c. search needs)
     returns-4)

@@ -1,58 +1,52 @@
+-- `listing::line::put_refusal`: four pieces in a row, which have room together. Assumes nothing.
+use native.Mathlib.Omega.{arith}
+use Rattle.layout.proofs.laws.Writing.{then, long}
+use Rattle.listing.specs.Lines.{refusalLine}
+use Rattle.listing.proofs.Pieces.{refusal-length}
 use borrow.Author.Needs.{needs}
 use Rattle.listing.proofs.line.put_refusal.Statement.{statement}
 use Rattle.listing.proofs.line.put_refusal.Tie as tie
-use Rattle.listing.proofs.line.put_refusal.Reads as reads
-use Rattle.listing.proofs.line.put_refusal.Lts as lts
-use Rattle.listing.proofs.decimal.put.Reads as put-reads
-use Rattle.listing.proofs.decimal.put_place.Reads as put-place-reads
-use Rattle.listing.proofs.line.put_bytes.Reads as put-bytes-reads
 
--- src/line.rt:156:9
 put-place-requires : tie.Need-put-place-requires
-put-place-requires c κs = ?
+put-place-requires c κs =
+    let k = c .before .before in
+    omega (arith, k .pre, refusal-length (k .args .place) (k .args .f))
 
--- src/line.rt:157:23
-slice-aggregate-put-bytes : tie.Need-slice-aggregate-put-bytes
-slice-aggregate-put-bytes c = search needs
-
--- src/line.rt:157:9
 put-bytes-requires : tie.Need-put-bytes-requires
-put-bytes-requires c κs = ?
+put-bytes-requires c κs =
+    let k = c .before .before .before .before .before .before .before in
+    let p = c .before .before .before .before .put-place .ensures in
+    omega (arith, k .pre, refusal-length (k .args .place) (k .args .f), p .place, long p)
 
--- src/line.rt:158:26
-cast-put : tie.Need-cast-put
-cast-put c = search needs
-
--- src/line.rt:158:9
 put-requires : tie.Need-put-requires
-put-requires c κs = ?
+put-requires c κs =
+    let k = c .before .before .before .before .before .before .before .before .before .before .before .before in
+    let p = c .before .before .before .before .before .before .before .before .before .put-place .ensures in
+    let q = c .before .before .before .before .put-bytes .ensures in
+    omega (arith, k .pre, refusal-length (k .args .place) (k .args .f), p .place, long p, q .place, long q)
 
--- src/line.rt:159:15
-slice-aggregate-put-bytes-2 : tie.Need-slice-aggregate-put-bytes-2
-slice-aggregate-put-bytes-2 c = search needs
-
--- src/line.rt:159:5
 put-bytes-requires-2 : tie.Need-put-bytes-requires-2
-put-bytes-requires-2 c κs = ?
+put-bytes-requires-2 c κs =
+    let k = c .before .before .before .before .before .before .before .before .before .before .before .before .before .before .before .before .before in
+    let p = c .before .before .before .before .before .before .before .before .before .before .before .before .before .before .put-place .ensures in
+    let q = c .before .before .before .before .before .before .before .before .before .put-bytes .ensures in
+    let r = c .before .before .before .before .put .ensures in
+    omega (arith, k .pre, refusal-length (k .args .place) (k .args .f), p .place, long p, q .place, long q, r .place, long r)
 
--- src/line.rt:152:1
-same-length : tie.Need-same-length
-same-length c = search needs
-
--- src/line.rt:152:1
 returns : tie.Need-returns
-returns c = ?
+unfolding refusalLine
+returns c = then (then (then (c .before .before .before .before .before .before .before .before .before .before .before .before .before .before .before .before .before .put-place .ensures) (c .before .before .before .before .before .before .before .before .before .before .before .before .put-bytes .ensures)) (c .before .before .before .before .before .before .before .put .ensures)) (c .before .before .put-bytes2 .ensures)
 
 pub put-refusal-spec : {M : Type 1} → statement M
 put-refusal-spec =
     tie.close
     (tie.spec
     put-place-requires
-    slice-aggregate-put-bytes
+    (λ c. search needs)
     put-bytes-requires
-    cast-put
+    (λ c. search needs)
     put-requires
-    slice-aggregate-put-bytes-2
+    (λ c. search needs)
     put-bytes-requires-2
-    same-length
+    (λ c. search needs)
     returns)
