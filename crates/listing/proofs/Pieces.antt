@@ -1,13 +1,14 @@
 -- Lines are rows of pieces that have room, one after the other.
 -- Assumes nothing.
-use mathlib.Core.Path.{_≡_}
+use mathlib.Core.Path.{_≡_, sym}
 use mathlib.Core.List.{List, _++_}
 use mathlib.Core.Option.{some, none}
-use Prim.Native.Nat.{ℕ, _+_, _≤_}
+use Prim.Native.Nat.{ℕ, _+_, _-_, _≤_}
 use native.Mathlib.Omega.{arith}
-use lib.ListN.{length, length-append}
+use lib.ListN.{length, take, drop, length-append}
 use Rattle.layout.specs.Written.{Put, roomed}
 use Rattle.layout.proofs.laws.Stored.{first, more}
+use Rattle.names.specs.Names.{nameBytes}
 use Rattle.recording.specs.Content.{Record}
 use Rattle.recording.specs.Content as content
 use Rattle.wire.specs.declared.container.Container.{Container}
@@ -23,6 +24,10 @@ module _ (A B : List ℕ) {out a b : List ℕ} {at i j : ℕ} where
 pub code-named : (kind code : ℕ) {bs : List ℕ} → some bs ≡ nameFor kind code → codeText kind code ≡ bs
 unfolding codeText
 code-named kind code e = rw (← e)
+
+-- by the part of the name bytes that is lent
+pub code-at : (names : List ℕ) (kind code start len : ℕ) → names ≡ nameBytes → some (take len (drop start nameBytes)) ≡ nameFor kind code → take (start + len - start) (drop start names) ≡ codeText kind code
+code-at names kind code start len e f = let s : start + len - start ≡ len = omega arith in rw (s, e) (sym (code-named kind code f))
 
 pub code-nameless : (kind code : ℕ) → none ≡ nameFor kind code → codeText kind code ≡ hexCode code
 unfolding codeText
