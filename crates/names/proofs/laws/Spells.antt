@@ -4,7 +4,7 @@ use mathlib.Core.Path.{_≡_, refl, ap}
 use mathlib.Core.Bool.{Bool, true, false}
 use mathlib.Core.List.{List, [], _∷_, _++_, append-assoc, append-nil}
 use mathlib.Core.Option.{Option, none, some}
-use Prim.Native.Nat.{ℕ, zero, suc, _+_, _-_, _≤_, _<_}
+use Prim.Native.Nat.{ℕ, zero, suc, _-_, _≤_, _<_}
 use Prim.Native.String.{String}
 use native.Mathlib.Nat.{not-suc-le-zero, le-of-suc-le-suc}
 use borrow.Author.Tests.{ltb-true, le-ltb, lt-ltb, le-leb, lt-leb}
@@ -13,7 +13,7 @@ use lib.ListN.{length, take, drop, getD, length-append}
 use lib.Seq.{take-append-seam, drop-append-add}
 use Rattle.layout.specs.Answer.{pick}
 use Rattle.names.specs.Names.{responses, commands, spelled, joined, nameBytes, given, entryOf, nameAt, placeAt, responseName, commandName, responsePlace, commandPlace}
-use Rattle.names.specs.Says.{bytesAt}
+use Rattle.names.specs.Says.{bytesAt, Inside}
 use Rattle.names.proofs.Tables.{Ruled, response-ruled, command-ruled}
 
 -- ── the entry of a code ──
@@ -84,11 +84,7 @@ pub command-short : (code : ℕ) → Short (commandName code)
 unfolding commandName commands
 command-short code = entered 0x1000 (length commands) code (λ e. Short (given (nameAt commands) e)) tt λ k h. let r = command-ruled k h in rw (r .len) at (r .short)
 
--- a place lies within the name bytes
-abbrev pub Inside : Option (ℕ × ℕ) → Type 0
-Inside none = Unit {0}
-Inside (some p) = p .0 + p .1 ≤ length nameBytes
-
+-- its place lies within the name bytes
 pub response-inside : (code : ℕ) → Inside (responsePlace code)
 unfolding responsePlace responses commands nameBytes
 response-inside code = entered 0x2000 (length responses) code (λ e. Inside (given (placeAt 0 responses) e)) tt λ k h. let r = response-ruled k h in rw (r .start, r .len) at (r .inside)

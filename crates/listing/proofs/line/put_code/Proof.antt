@@ -7,8 +7,7 @@ use denote.Ref.{now}
 use lib.ListN.{length, take, drop}
 use Rattle.layout.proofs.laws.Reading.{heard}
 use Rattle.names.specs.Names.{nameBytes, given}
-use Rattle.names.specs.Says.{saysName, bytesAt}
-use Rattle.names.proofs.laws.Spells.{Inside}
+use Rattle.names.specs.Says.{saysName, bytesAt, Inside}
 use Rattle.listing.specs.Lines.{nameFor}
 use Rattle.listing.proofs.Pieces.{code-at, code-nameless}
 use borrow.Author.Needs.{needs}
