@@ -94,7 +94,7 @@ fn put_long(n: u64, out: &mut [u8], at: usize) -> usize
     put_eight(n % 100000000, out, a)
 }
 
-// A number that has one digit, as most counts have, is put without a call.
+// One digit or two, which most counts have, are put without a call.
 pub(crate) fn put(n: u64, out: &mut [u8], at: usize) -> usize
     requires { ⌜ at + length (decimal n) ≤ length (now out) ⌝ }
     ensures { λ r. ⌜ Put (now (out .entry)) at (decimal n) (now (out .exit)) r ⌝ }
@@ -102,13 +102,16 @@ pub(crate) fn put(n: u64, out: &mut [u8], at: usize) -> usize
     if n < 10 {
         return put_one(n, out, at);
     }
+    if n < 100 {
+        return put_two(n, out, at);
+    }
     if n < 100000000 {
         return put_short(n, out, at);
     }
     put_long(n, out, at)
 }
 
-// A record's place, which seldom has one digit.
+// A record's place, which seldom has so few.
 pub(crate) fn put_place(n: u64, out: &mut [u8], at: usize) -> usize
     requires { ⌜ at + length (decimal n) ≤ length (now out) ⌝ }
     ensures { λ r. ⌜ Put (now (out .entry)) at (decimal n) (now (out .exit)) r ⌝ }

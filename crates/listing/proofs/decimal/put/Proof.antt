@@ -1,6 +1,6 @@
--- `listing::decimal::put`: one digit, or by its size. Assumes nothing.
+-- `listing::decimal::put`: one digit, two, or by its size. Assumes nothing.
 use native.Mathlib.Omega.{arith}
-use Rattle.listing.proofs.Numerals.{decimal-is, decimal-length, one-digit}
+use Rattle.listing.proofs.Numerals.{decimal-is, decimal-length, one-digit, two-digits}
 use borrow.Author.Needs.{needs}
 use Rattle.listing.proofs.decimal.put.Statement.{statement}
 use Rattle.listing.proofs.decimal.put.Tie as tie
@@ -11,6 +11,12 @@ put-one-requires c κs = let n = c .before .before .before .args .n in omega (ar
 returns : tie.Need-returns
 returns c = let n = c .before .before .before .before .before .before .args .n in rw (← decimal-is n 1 (one-digit n (c .before .before .before .before .if1 .taken))) (c .before .before .put-one .ensures)
 
+put-two-requires : tie.Need-put-two-requires
+put-two-requires c κs = let n = c .before .before .before .before .args .n in omega (arith, c .before .before .before .before .pre, decimal-length n 2 (two-digits n (c .before .before .if1 .left) (c .before .if2 .taken)))
+
+returns-2 : tie.Need-returns-2
+returns-2 c = let n = c .before .before .before .before .before .before .before .args .n in rw (← decimal-is n 2 (two-digits n (c .before .before .before .before .before .if1 .left) (c .before .before .before .before .if2 .taken))) (c .before .before .put-two .ensures)
+
 pub put-spec : {M : Type 1} → statement M
 put-spec =
     tie.close
@@ -18,6 +24,9 @@ put-spec =
     put-one-requires
     (λ c. search needs)
     returns
+    put-two-requires
+    (λ c. search needs)
+    returns-2
     (λ c κs. search needs)
     (λ c. search needs)
     (λ c. search needs)
