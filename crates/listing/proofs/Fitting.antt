@@ -3,7 +3,7 @@
 use mathlib.Core.Bool.{Bool, true, false}
 use mathlib.Core.List.{List}
 use mathlib.Core.Option.{Option, some, none}
-use Prim.Native.Nat.{ℕ, _+_, _^_, _≤_, _<_}
+use Prim.Native.Nat.{ℕ, _^_, _≤_, _<_}
 use native.Mathlib.Omega.{arith}
 use lib.Dec.{eqb}
 use lib.ListN.{length}
@@ -15,7 +15,7 @@ use Rattle.wire.specs.declared.container.Container.{Container}
 use Rattle.recording.specs.Content.{Content, Record}
 use Rattle.recording.specs.Content as content
 use Rattle.recording.proofs.laws.Rowed.{Stands, Small}
-use Rattle.listing.specs.Lines.{decimal, hexCode, wayText, kindText, nameOr, nameFor, codeText, countsText, containerLine, noteLine, refusalLine, ending, contentLine, recordLine}
+use Rattle.listing.specs.Lines.{hexCode, wayText, kindText, nameOr, nameFor, codeText, countsText, containerLine, noteLine, refusalLine, ending, contentLine, recordLine}
 use Rattle.listing.specs.Window.{lineRoom}
 use Rattle.listing.proofs.Numerals.{decimal-short, hex-length}
 use Rattle.listing.proofs.Pieces.{counts-length, note-length, refusal-length, ending-length, container-length}

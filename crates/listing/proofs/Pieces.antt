@@ -6,13 +6,13 @@ use mathlib.Core.Option.{some, none}
 use Prim.Native.Nat.{ℕ, _+_, _-_, _≤_}
 use native.Mathlib.Omega.{arith}
 use lib.ListN.{length, take, drop, length-append}
+use Rattle.layout.specs.Answer.{Told}
 use Rattle.layout.specs.Written.{Put, roomed}
 use Rattle.layout.proofs.laws.Stored.{first, more}
 use Rattle.names.specs.Names.{nameBytes}
 use Rattle.recording.specs.Content.{Record}
 use Rattle.recording.specs.Content as content
 use Rattle.wire.specs.declared.container.Container.{Container}
-use Rattle.layout.specs.Answer.{Told}
 use Rattle.listing.specs.Lines.{decimal, hexCode, wayText, kindText, nameFor, codeText, countsText, containerLine, noteLine, refusalLine, ending, recordLine}
 
 module _ (A B : List ℕ) {out a b : List ℕ} {at i j : ℕ} where
@@ -21,7 +21,7 @@ module _ (A B : List ℕ) {out a b : List ℕ} {at i j : ℕ} where
 
 -- ── what a line is, by its case ──
 
-pub code-named : (kind code : ℕ) {bs : List ℕ} → some bs ≡ nameFor kind code → codeText kind code ≡ bs
+code-named : (kind code : ℕ) {bs : List ℕ} → some bs ≡ nameFor kind code → codeText kind code ≡ bs
 unfolding codeText
 code-named kind code e = rw (← e)
 

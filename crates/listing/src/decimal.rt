@@ -1,5 +1,4 @@
 // A number in decimal, written where it is to stand and has room, from the first digit to the last.
-ghost use mathlib.Core.Path.{_≡_};
 ghost use Prim.Native.Nat.{_+_, _≤_, _<_};
 ghost use lib.ListN.{length};
 ghost use Rattle.io.specs.Digits.{digits};
