@@ -1,12 +1,12 @@
 -- Every line has room in 128 bytes: a 64-bit number has at most twenty digits, and a name at most 37 bytes.
 -- Assumes nothing.
 use mathlib.Core.Bool.{Bool, true, false}
-use mathlib.Core.List.{List, _++_}
+use mathlib.Core.List.{List}
 use mathlib.Core.Option.{Option, some, none}
-use Prim.Native.Nat.{ℕ, _+_, _^_, _≤_, _<_}
+use Prim.Native.Nat.{ℕ, _^_, _≤_, _<_}
 use native.Mathlib.Omega.{arith}
 use lib.Dec.{eqb}
-use lib.ListN.{length, length-append}
+use lib.ListN.{length}
 use Rattle.layout.specs.Answer.{Told, pick}
 use Rattle.layout.specs.Written.{Put}
 use Rattle.names.specs.Names.{spelled, responseName, commandName}
@@ -15,10 +15,10 @@ use Rattle.wire.specs.declared.container.Container.{Container}
 use Rattle.recording.specs.Content.{Content, Record}
 use Rattle.recording.specs.Content as content
 use Rattle.recording.proofs.laws.Rowed.{Stands, Small}
-use Rattle.listing.specs.Lines.{decimal, hexCode, wayText, kindText, nameOr, nameFor, codeText, countsText, containerLine, noteLine, refusalLine, ending, contentLine, recordLine}
+use Rattle.listing.specs.Lines.{hexCode, wayText, kindText, nameOr, nameFor, codeText, countsText, containerLine, noteLine, refusalLine, ending, contentLine, recordLine}
 use Rattle.listing.specs.Window.{lineRoom}
 use Rattle.listing.proofs.Numerals.{decimal-short, hex-length}
-use Rattle.listing.proofs.Pieces.{container-parts}
+use Rattle.listing.proofs.Pieces.{counts-length, note-length, refusal-length, ending-length, container-length}
 
 way-short : (kind : ℕ) → length (wayText kind) ≤ 5
 unfolding wayText
@@ -56,17 +56,13 @@ code-short kind code = go (nameFor kind code) (name-short kind code)
     go none h = omega (arith, hex-length code)
 
 counts-short : (number count : ℕ) → number < 2 ^ 64 → count < 2 ^ 64 → length (countsText number count) ≤ 43
-unfolding countsText
-counts-short number count h k =
-    simp length-append (omega (arith, decimal-short number h, decimal-short count k))
+counts-short number count h k = omega (arith, counts-length number count, decimal-short number h, decimal-short count k)
 
 container-short : (place kind : ℕ) (x : Container) → place < 2 ^ 64 → x .number < 2 ^ 64 → x .payload .count < 2 ^ 64 → length (containerLine place kind x) ≤ lineRoom
 container-short place kind x h k l =
     omega (
       arith,
-      container-parts place kind x,
-      length-append (decimal place ++ wayText kind) (kindText (x .kind)),
-      length-append (decimal place) (wayText kind),
+      container-length place kind x,
       decimal-short place h,
       way-short kind,
       kind-short (x .kind),
@@ -75,19 +71,13 @@ container-short place kind x h k l =
     )
 
 note-short : (place count : ℕ) → place < 2 ^ 64 → count < 2 ^ 64 → length (noteLine place count) ≤ lineRoom
-unfolding noteLine
-note-short place count h k = simp length-append (omega (arith, decimal-short place h, decimal-short count k))
+note-short place count h k = omega (arith, note-length place count, decimal-short place h, decimal-short count k)
 
 pub refusal-short : (place : ℕ) (t : Told) → place < 2 ^ 64 → t .no < 256 → length (refusalLine place t) ≤ lineRoom
-unfolding refusalLine
-refusal-short place t h k = simp length-append (omega (arith, decimal-short place h, decimal-short (t .no) (omega arith)))
+refusal-short place t h k = omega (arith, refusal-length place t, decimal-short place h, decimal-short (t .no) (omega arith))
 
-ending-short : (records count : ℕ) → records < 2 ^ 64 → count < 2 ^ 64 → length (ending records count) ≤ 64
-unfolding ending
-ending-short records count h k = simp length-append (omega (arith, decimal-short records h, decimal-short count k))
-
-pub ending-room : (records count n : ℕ) → records < 2 ^ 64 → count < 2 ^ 64 → 64 ≤ n → 0 + length (ending records count) ≤ n
-ending-room records count n h k l = omega (arith, ending-short records count h k)
+pub ending-short : (records count : ℕ) → records < 2 ^ 64 → count < 2 ^ 64 → length (ending records count) ≤ 64
+ending-short records count h k = omega (arith, ending-length records count, decimal-short records h, decimal-short count k)
 
 pub ending-placed : {records count r : ℕ} {old new : List ℕ} → records < 2 ^ 64 → count < 2 ^ 64 → Put old 0 (ending records count) new r → Put old 0 (ending records count) new r × (r ≤ 64)
 ending-placed {records} {count} h k p = (p, omega (arith, p .place, ending-short records count h k))

@@ -1,6 +1,7 @@
 pub mod laws
 pub mod Numerals
 pub mod Spelling
+pub mod Ends
 pub mod Pieces
 pub mod Windows
 pub mod Cut

@@ -47,6 +47,20 @@ pub decimal-is : (n k : ℕ) → Fewest 10 1 n k → digits 10 k n ≡ decimal n
 unfolding decimal
 decimal-is n k p = ap (λ j. digits 10 j n) (one-count 10 1 n k (digitsOf n n) (omega arith) p (fewest n n (omega arith)))
 
+-- ── of few digits ──
+
+pub one-digit : (n : ℕ) → n < 10 → Fewest 10 1 n 1
+one-digit n h = (omega arith, omega arith, λ l. omega arith)
+
+pub two-digits : (n : ℕ) → 10 ≤ n → n < 100 → Fewest 10 1 n 2
+two-digits n l h = (omega arith, omega arith, λ m. omega arith)
+
+pub three-digits : (n : ℕ) → 100 ≤ n → n < 1000 → Fewest 10 1 n 3
+three-digits n l h = (omega arith, omega arith, λ m. omega arith)
+
+pub four-digits : (n : ℕ) → 1000 ≤ n → n < 10000 → Fewest 10 1 n 4
+four-digits n l h = (omega arith, omega arith, λ m. omega arith)
+
 pub hex-is : (n k : ℕ) → n < 16 ^ 4 → Fewest 16 4 n k → k ≡ 4
 hex-is n k h p = one-count 16 4 n k 4 (omega arith) p (omega arith, h, λ l. omega arith)
 

@@ -1,43 +1,33 @@
--- Lines are rows of pieces: two to five stores, one after the other, that all have room.
+-- Lines are rows of pieces that have room, one after the other.
 -- Assumes nothing.
-use mathlib.Core.Path.{_≡_}
+use mathlib.Core.Path.{_≡_, sym}
 use mathlib.Core.List.{List, _++_}
 use mathlib.Core.Option.{some, none}
-use Prim.Native.Nat.{ℕ, _+_, _≤_}
+use Prim.Native.Nat.{ℕ, _+_, _-_, _≤_}
 use native.Mathlib.Omega.{arith}
-use lib.ListN.{length, length-append}
+use lib.ListN.{length, take, drop, length-append}
+use Rattle.layout.specs.Answer.{Told}
 use Rattle.layout.specs.Written.{Put, roomed}
 use Rattle.layout.proofs.laws.Stored.{first, more}
+use Rattle.names.specs.Names.{nameBytes}
 use Rattle.recording.specs.Content.{Record}
 use Rattle.recording.specs.Content as content
 use Rattle.wire.specs.declared.container.Container.{Container}
-use Rattle.listing.specs.Lines.{decimal, hexCode, wayText, kindText, nameFor, codeText, countsText, containerLine, noteLine, recordLine}
+use Rattle.listing.specs.Lines.{decimal, hexCode, wayText, kindText, nameFor, codeText, countsText, containerLine, noteLine, refusalLine, ending, recordLine}
 
 module _ (A B : List ℕ) {out a b : List ℕ} {at i j : ℕ} where
   pub row2 : at + length (A ++ B) ≤ length out → Put out at (roomed out at A) a i → Put a i (roomed a i B) b j → Put out at (A ++ B) b j
   row2 h p q = let l = length-append A B in more (first (omega arith) p) B (omega arith) q
 
-module _ (A B C : List ℕ) {out a b c : List ℕ} {at i j k : ℕ} where
-  pub row3 : at + length (A ++ B ++ C) ≤ length out → Put out at (roomed out at A) a i → Put a i (roomed a i B) b j → Put b j (roomed b j C) c k → Put out at (A ++ B ++ C) c k
-  row3 h p q r = let l = length-append (A ++ B) C in more (row2 A B (omega arith) p q) C (omega arith) r
-
-module _ (A B C D : List ℕ) {out a b c d : List ℕ} {at i j k l : ℕ} where
-  pub row4 :
-      at + length (A ++ B ++ C ++ D) ≤ length out → Put out at (roomed out at A) a i → Put a i (roomed a i B) b j → Put b j (roomed b j C) c k → Put c k (roomed c k D) d l →
-      Put out at (A ++ B ++ C ++ D) d l
-  row4 h p q r s = let l = length-append (A ++ B ++ C) D in more (row3 A B C (omega arith) p q r) D (omega arith) s
-
-module _ (A B C D E : List ℕ) {out a b c d e : List ℕ} {at i j k l m : ℕ} where
-  pub row5 :
-      at + length (A ++ B ++ C ++ D ++ E) ≤ length out → Put out at (roomed out at A) a i → Put a i (roomed a i B) b j → Put b j (roomed b j C) c k → Put c k (roomed c k D) d l →
-      Put d l (roomed d l E) e m → Put out at (A ++ B ++ C ++ D ++ E) e m
-  row5 h p q r s t = let l = length-append (A ++ B ++ C ++ D) E in more (row4 A B C D (omega arith) p q r s) E (omega arith) t
-
 -- ── what a line is, by its case ──
 
-pub code-named : (kind code : ℕ) {bs : List ℕ} → some bs ≡ nameFor kind code → codeText kind code ≡ bs
+code-named : (kind code : ℕ) {bs : List ℕ} → some bs ≡ nameFor kind code → codeText kind code ≡ bs
 unfolding codeText
 code-named kind code e = rw (← e)
+
+-- by the part of the name bytes that is lent
+pub code-at : (names : List ℕ) (kind code start len : ℕ) → names ≡ nameBytes → some (take len (drop start nameBytes)) ≡ nameFor kind code → take (start + len - start) (drop start names) ≡ codeText kind code
+code-at names kind code start len e f = let s : start + len - start ≡ len = omega arith in rw (s, e) (sym (code-named kind code f))
 
 pub code-nameless : (kind code : ℕ) → none ≡ nameFor kind code → codeText kind code ≡ hexCode code
 unfolding codeText
@@ -51,14 +41,27 @@ pub record-holds : (place : ℕ) (x : Record) {c : Container} → x .content ≡
 unfolding recordLine
 record-holds place x e = rw e
 
--- the length of a container's line, by its pieces
-pub container-parts :
+-- ── lengths, by the pieces ──
+
+pub counts-length : (number count : ℕ) → length (countsText number count) ≡ length (decimal number) + length (decimal count) + 3
+unfolding countsText
+counts-length number count = simp length-append (omega arith)
+
+pub note-length : (place count : ℕ) → length (noteLine place count) ≡ length (decimal place) + length (decimal count) + 7
+unfolding noteLine
+note-length place count = simp length-append (omega arith)
+
+pub refusal-length : (place : ℕ) (t : Told) → length (refusalLine place t) ≡ length (decimal place) + length (decimal (t .no)) + 10
+unfolding refusalLine
+refusal-length place t = simp length-append (omega arith)
+
+pub ending-length : (records count : ℕ) → length (ending records count) ≡ length (decimal records) + length (decimal count) + 16
+unfolding ending
+ending-length records count = simp length-append (omega arith)
+
+pub container-length :
     (place kind : ℕ) (x : Container) →
-    length (containerLine place kind x) ≡ length (decimal place ++ wayText kind ++ kindText (x .kind)) + length (codeText (x .kind) (x .code)) + length (countsText (x .number) (x .payload .count))
+    length (containerLine place kind x) ≡
+    length (decimal place) + length (wayText kind) + length (kindText (x .kind)) + length (codeText (x .kind) (x .code)) + length (countsText (x .number) (x .payload .count))
 unfolding containerLine
-container-parts place kind x =
-    omega (
-      arith,
-      length-append (decimal place ++ wayText kind ++ kindText (x .kind) ++ codeText (x .kind) (x .code)) (countsText (x .number) (x .payload .count)),
-      length-append (decimal place ++ wayText kind ++ kindText (x .kind)) (codeText (x .kind) (x .code)),
-    )
+container-length place kind x = simp length-append (omega arith)

@@ -1,76 +1,9 @@
-// A number in decimal, written where it is to stand: its digits are counted, and then written from the last to the first, two a step.
-ghost use mathlib.Core.Path.{_≡_};
+// A number in decimal, written where it is to stand and has room, from the first digit to the last.
 ghost use Prim.Native.Nat.{_+_, _≤_, _<_};
 ghost use lib.ListN.{length};
-ghost use Rattle.io.specs.Digits.{digits, Fewest};
-ghost use Rattle.layout.specs.Written.{Put, roomed};
-ghost use Rattle.layout.specs.Written.{put as Written·put};
+ghost use Rattle.io.specs.Digits.{digits};
+ghost use Rattle.layout.specs.Written.{Put};
 ghost use Rattle.listing.specs.Lines.{decimal};
-
-// How many digits a short number has.
-fn count_few(n: u64) -> usize
-    requires { ⌜ n < 10000 ⌝ }
-    ensures { λ r. ⌜ Fewest 10 1 n r × (r ≤ 4) ⌝ }
-{
-    if n < 10 {
-        return 1;
-    }
-    if n < 100 {
-        return 2;
-    }
-    if n < 1000 {
-        return 3;
-    }
-    4
-}
-
-// How many digits a number has.
-fn count(n: u64) -> usize
-    ensures { λ r. ⌜ Fewest 10 1 n r ⌝ }
-{
-    let mut k = 0;
-    let mut rest = n;
-    while rest >= 10000 {
-        rest = rest / 10000;
-        k += 4;
-    }
-    k + count_few(rest)
-}
-
-// The last k digits of n, at a place.
-fn spell(n: u64, k: usize, out: &mut [u8], at: usize)
-    requires { ⌜ at + k ≤ length (now out) ⌝ }
-    ensures { λ _. ⌜ now (out .exit) ≡ Written·put (now (out .entry)) at (digits 10 k n) ⌝ }
-{
-    let mut left = k;
-    let mut rest = n;
-    while left >= 2 {
-        let two = rest % 100;
-        rest = rest / 100;
-        left -= 2;
-        let i = at + left;
-        out[i + 1] = (48 + two % 10) as u8;
-        out[i] = (48 + two / 10) as u8;
-    }
-    if left == 1 {
-        out[at] = (48 + rest % 10) as u8;
-    }
-}
-
-// The number at a place, and the place after it. Where it has no room nothing is written.
-fn put_any(n: u64, out: &mut [u8], at: usize) -> usize
-    ensures { λ r. ⌜ Put (now (out .entry)) at (roomed (now (out .entry)) at (decimal n)) (now (out .exit)) r ⌝ }
-{
-    let k = count(n);
-    if out.len() < k {
-        return at;
-    }
-    if out.len() - k < at {
-        return at;
-    }
-    spell(n, k, out, at);
-    at + k
-}
 
 fn put_one(n: u64, out: &mut [u8], at: usize) -> usize
     requires { ⌜ at + 1 ≤ length (now out) ⌝ }
@@ -80,13 +13,16 @@ fn put_one(n: u64, out: &mut [u8], at: usize) -> usize
     at + 1
 }
 
+// Both bytes are reckoned as one number, the first digit's the low one, so that they are stored at once: 12336 is two zeros' bytes, and
+// 256 * two - 2559 * (two / 10) is the first digit and 256 times the second.
 fn put_two(n: u64, out: &mut [u8], at: usize) -> usize
     requires { ⌜ at + 2 ≤ length (now out) ⌝ }
     ensures { λ r. ⌜ Put (now (out .entry)) at (digits 10 2 n) (now (out .exit)) r ⌝ }
 {
     let two = n % 100;
-    out[at + 1] = (48 + two % 10) as u8;
-    out[at] = (48 + two / 10) as u8;
+    let both = 12336 + 256 * two - 2559 * (two / 10);
+    out[at + 1] = (both / 256) as u8;
+    out[at] = (both % 256) as u8;
     at + 2
 }
 
@@ -98,10 +34,18 @@ fn put_four(n: u64, out: &mut [u8], at: usize) -> usize
     put_two(n % 100, out, a)
 }
 
+fn put_eight(n: u64, out: &mut [u8], at: usize) -> usize
+    requires { ⌜ at + 8 ≤ length (now out) ⌝ }
+    ensures { λ r. ⌜ Put (now (out .entry)) at (digits 10 8 n) (now (out .exit)) r ⌝ }
+{
+    let a = put_four(n / 10000, out, at);
+    put_four(n % 10000, out, a)
+}
+
 // Of at most four digits.
 fn put_few(n: u64, out: &mut [u8], at: usize) -> usize
-    requires { ⌜ (n < 10000) × (at + 4 ≤ length (now out)) ⌝ }
-    ensures { λ r. ⌜ Put (now (out .entry)) at (decimal n) (now (out .exit)) r × (r ≤ at + 4) ⌝ }
+    requires { ⌜ (n < 10000) × (at + length (decimal n) ≤ length (now out)) ⌝ }
+    ensures { λ r. ⌜ Put (now (out .entry)) at (decimal n) (now (out .exit)) r ⌝ }
 {
     if n < 10 {
         return put_one(n, out, at);
@@ -118,8 +62,8 @@ fn put_few(n: u64, out: &mut [u8], at: usize) -> usize
 
 // Of at most eight.
 fn put_short(n: u64, out: &mut [u8], at: usize) -> usize
-    requires { ⌜ (n < 100000000) × (at + 8 ≤ length (now out)) ⌝ }
-    ensures { λ r. ⌜ Put (now (out .entry)) at (decimal n) (now (out .exit)) r × (r ≤ at + 8) ⌝ }
+    requires { ⌜ (n < 100000000) × (at + length (decimal n) ≤ length (now out)) ⌝ }
+    ensures { λ r. ⌜ Put (now (out .entry)) at (decimal n) (now (out .exit)) r ⌝ }
 {
     if n < 10000 {
         return put_few(n, out, at);
@@ -128,19 +72,51 @@ fn put_short(n: u64, out: &mut [u8], at: usize) -> usize
     put_four(n % 10000, out, a)
 }
 
-// The number at a place, and the place after it. Where it has no room nothing is written. A short number with room enough, which is nearly
-// every one, is not counted first.
-pub(crate) fn put(n: u64, out: &mut [u8], at: usize) -> usize
-    ensures { λ r. ⌜ Put (now (out .entry)) at (roomed (now (out .entry)) at (decimal n)) (now (out .exit)) r ⌝ }
+// Of at most twelve.
+fn put_middle(n: u64, out: &mut [u8], at: usize) -> usize
+    requires { ⌜ (n < 1000000000000) × (at + length (decimal n) ≤ length (now out)) ⌝ }
+    ensures { λ r. ⌜ Put (now (out .entry)) at (decimal n) (now (out .exit)) r ⌝ }
 {
-    if n >= 100000000 {
-        return put_any(n, out, at);
+    if n < 100000000 {
+        return put_short(n, out, at);
     }
-    if out.len() < 8 {
-        return put_any(n, out, at);
+    let a = put_few(n / 100000000, out, at);
+    put_eight(n % 100000000, out, a)
+}
+
+// Of more than eight.
+fn put_long(n: u64, out: &mut [u8], at: usize) -> usize
+    requires { ⌜ (100000000 ≤ n) × (at + length (decimal n) ≤ length (now out)) ⌝ }
+    ensures { λ r. ⌜ Put (now (out .entry)) at (decimal n) (now (out .exit)) r ⌝ }
+{
+    let a = put_middle(n / 100000000, out, at);
+    put_eight(n % 100000000, out, a)
+}
+
+// One digit or two, which most counts have, are put without a call.
+pub(crate) fn put(n: u64, out: &mut [u8], at: usize) -> usize
+    requires { ⌜ at + length (decimal n) ≤ length (now out) ⌝ }
+    ensures { λ r. ⌜ Put (now (out .entry)) at (decimal n) (now (out .exit)) r ⌝ }
+{
+    if n < 10 {
+        return put_one(n, out, at);
     }
-    if out.len() - 8 < at {
-        return put_any(n, out, at);
+    if n < 100 {
+        return put_two(n, out, at);
     }
-    put_short(n, out, at)
+    if n < 100000000 {
+        return put_short(n, out, at);
+    }
+    put_long(n, out, at)
+}
+
+// A record's place, which seldom has so few.
+pub(crate) fn put_place(n: u64, out: &mut [u8], at: usize) -> usize
+    requires { ⌜ at + length (decimal n) ≤ length (now out) ⌝ }
+    ensures { λ r. ⌜ Put (now (out .entry)) at (decimal n) (now (out .exit)) r ⌝ }
+{
+    if n < 100000000 {
+        return put_short(n, out, at);
+    }
+    put_long(n, out, at)
 }

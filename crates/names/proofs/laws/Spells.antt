@@ -13,7 +13,7 @@ use lib.ListN.{length, take, drop, getD, length-append}
 use lib.Seq.{take-append-seam, drop-append-add}
 use Rattle.layout.specs.Answer.{pick}
 use Rattle.names.specs.Names.{responses, commands, spelled, joined, nameBytes, given, entryOf, nameAt, placeAt, responseName, commandName, responsePlace, commandPlace}
-use Rattle.names.specs.Says.{bytesAt}
+use Rattle.names.specs.Says.{bytesAt, Inside}
 use Rattle.names.proofs.Tables.{Ruled, response-ruled, command-ruled}
 
 -- ── the entry of a code ──
@@ -83,3 +83,12 @@ response-short code = entered 0x2000 (length responses) code (λ e. Short (given
 pub command-short : (code : ℕ) → Short (commandName code)
 unfolding commandName commands
 command-short code = entered 0x1000 (length commands) code (λ e. Short (given (nameAt commands) e)) tt λ k h. let r = command-ruled k h in rw (r .len) at (r .short)
+
+-- its place lies within the name bytes
+pub response-inside : (code : ℕ) → Inside (responsePlace code)
+unfolding responsePlace responses commands nameBytes
+response-inside code = entered 0x2000 (length responses) code (λ e. Inside (given (placeAt 0 responses) e)) tt λ k h. let r = response-ruled k h in rw (r .start, r .len) at (r .inside)
+
+pub command-inside : (code : ℕ) → Inside (commandPlace code)
+unfolding commandPlace responses commands nameBytes
+command-inside code = entered 0x1000 (length commands) code (λ e. Inside (given (placeAt (length (joined responses)) commands) e)) tt λ k h. let r = command-ruled k h in rw (r .start, r .len) at (r .inside)
