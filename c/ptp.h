@@ -1,8 +1,12 @@
 /* The byte layer of the picture transfer protocol: twelve proved functions, in C.
  *
- * Each function answers how many numbers or bytes it gave, 0 or more; or minus the number of its refusal, -1 to -14. A refusal
- * changes nothing that was lent, and numbers and bytes past what was given are unchanged. Where several refusals would apply, the first
- * in the order that is named here is given. Every function ends, keeps no pointer, and neither allocates nor calls back.
+ * Each function answers how many numbers or bytes it gave, 0 or more; or a refusal, below 0: minus (its number, 1 to 14, and 256 times its
+ * place), which ptp_refusal_number and ptp_refusal_place take apart. The place is that of the first byte of the field that failed, for
+ * END and TEXT: an array's count, a string's count byte, a list's failing value. It counts in the bytes that were lent, of an object's
+ * name in that name, and is exact in arrays below 2^55 bytes. Every other refusal has the place 0.
+ *
+ * A refusal changes nothing that was lent, and numbers and bytes past what was given are unchanged. Where several refusals would apply,
+ * the first in the order that is named here is given. Every function ends, keeps no pointer, and neither allocates nor calls back.
  *
  * What a caller owes: a pointer and the length behind it are one array, whose length counts its items and not its bytes. A pointer is
  * aligned for its type and not NULL, also where the length is 0. What is lent for writing overlaps nothing else that is lent.
@@ -38,6 +42,18 @@ enum ptp_refusal {
     PTP_RECORD = 13, /* a record's length is below 6, or its kind not 1 to 3 */
     PTP_LONG = 14    /* a record's body is over 8,192 bytes */
 };
+
+/* Of an answer below 0: which refusal it is, one of the numbers above. */
+static inline enum ptp_refusal ptp_refusal_number(int64_t answer)
+{
+    return (enum ptp_refusal)((0 - (uint64_t)answer) % 256);
+}
+
+/* And where the field that failed begins, for END and TEXT. */
+static inline uint64_t ptp_refusal_place(int64_t answer)
+{
+    return (0 - (uint64_t)answer) / 256;
+}
 
 /* ---- datasets: the one that begins the bytes; bytes may follow it. Refusals, field by field: END, TEXT; then ROOM. ---- */
 

@@ -43,12 +43,20 @@ static size_t read_list(const char *word, uint32_t *list)
     return len;
 }
 
+/* The refusal's number; of END and TEXT the place too, from the place where the question's bytes begin. */
+static void print_refusal(const char *word, int64_t answer, uint64_t from)
+{
+    printf("%s %d", word, (int)ptp_refusal_number(answer));
+    if (ptp_refusal_number(answer) == PTP_END || ptp_refusal_number(answer) == PTP_TEXT)
+        printf(" %" PRIu64, ptp_refusal_place(answer) - from);
+}
+
 /* Whether it gave all its numbers; else the refusal is printed. */
 static bool gave(int64_t answer, int64_t numbers)
 {
     if (answer == numbers)
         return true;
-    printf("no %" PRId64, -answer);
+    print_refusal("no", answer, 0);
     return false;
 }
 
@@ -254,7 +262,7 @@ static void command(uint32_t state, const char *code, const char *params_word, c
     memset(second, 0xA5, room);
     int64_t answer = ptp_command(&number, (uint16_t)number_of(code), params, params_len, first, len, data_word != NULL, second, room);
     if (answer < 0) {
-        printf("%s %" PRId64, number == state ? "no" : "moved", -answer);
+        print_refusal(number == state ? "no" : "moved", answer, 0);
     } else {
         printf("ok");
         print_number(word_at(second + 8, 4));
@@ -309,8 +317,10 @@ static void container(const uint8_t *s, size_t len, uint8_t *lent)
         container(s, word_at(s, 4), lent);
         return;
     }
-    if (!gave(answer, 9))
+    if (answer < 0) {
+        print_refusal("no", answer, 6);
         return;
+    }
     printf("ok");
     print_number(x[PTP_RECORD_CONTAINER_KIND]);
     print_number(x[PTP_RECORD_CODE]);

@@ -21,7 +21,7 @@ static const char DESCRIPTION[] = "0d5006000101"
 
 static int refused(int64_t answer)
 {
-    fprintf(stderr, "refusal %d\n", (int)-answer);
+    fprintf(stderr, "refusal %d\n", (int)ptp_refusal_number(answer));
     return 1;
 }
 

@@ -90,7 +90,7 @@ def all_lines():
 
 
 def agreed(pairs, oracle):
-    """The model's answers, after the oracle has given the same wherever it has one."""
+    """The model's answers, after the oracle has given the same, but for the place of a refusal, wherever it has one."""
     asked = [line for name, line in pairs if rules.row_for(name, line) is None]
     with tempfile.TemporaryDirectory() as folder:
         program = run.Asked([os.path.abspath(oracle)], folder)
@@ -98,7 +98,8 @@ def agreed(pairs, oracle):
         by_oracle = dict(zip(asked, program.collect()))
     for _, line in pairs:
         answer = ask.answer(line)
-        if by_oracle.get(line, answer) != answer:
+        placeless = rules.without_place(answer)
+        if by_oracle.get(line, placeless) != placeless:
             sys.exit(f"replay: model and oracle differ: {line}")
         yield answer
 

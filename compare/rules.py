@@ -3,6 +3,8 @@
 A rule tests the question, never an answer.
 """
 
+import re
+
 from model import ask, names, session, tree, values
 from model.containers import COMMAND, EVENT, HEADER, MOST_PARAMETERS, RESPONSE
 
@@ -20,6 +22,15 @@ ADDED = {
     "write-string": "D4",
     MALFORMED: "D15",
 }
+
+
+# A refused reading, which has a place. A writer's output is the filling or `-`, so no place is taken for one.
+PLACED = re.compile(r"(no [12]) [0-9]+")
+
+
+def without_place(answer):
+    """The answer as the Rust can give it: its errors have no place (D28)."""
+    return PLACED.sub(r"\1", answer, count=1) if PLACED.match(answer) else answer
 
 
 def words_of(line):

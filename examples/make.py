@@ -10,7 +10,7 @@ A description's lines, each one record (a line that begins with a space goes on 
 
     out|in KIND CODE NUMBER FIELD ..    a container, sent or received; CODE is a name, or 0x and four digits
     note "TEXT"  or  note FIELD ..      an operator's note
-    raw FIELD .. refusal NO             bytes that are refused with this number; `refusal -`: not reached any more
+    raw FIELD .. refusal NO [AT]        bytes that are refused with this number and place; `refusal -`: not reached any more
 
 A field is [LABEL=]TYPE:VALUE with the types u8, u16, u32, u64, string, array16, array32, hex and zeros (a count).
 """
@@ -94,9 +94,8 @@ def note_line(_, *words):
 
 
 def raw_line(_, *words):
-    *given, refusal, number = words
-    assert refusal == "refusal"
-    return Made(fields(given), None if number == "-" else f"refusal {number}", False)
+    at = words.index("refusal")
+    return Made(fields(words[:at]), None if words[at + 1] == "-" else " ".join(words[at:]), False)
 
 
 LINES = {"in": container_line, "out": container_line, "note": note_line, "raw": raw_line}

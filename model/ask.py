@@ -155,7 +155,7 @@ def writing(size, make):
         before, written = make()
         refuse_if(len(written) > size, ROOM)
     except Refused as refused:
-        return f"no {refused.number} {laid_out(size, b'')}"
+        return f"no {refused} {laid_out(size, b'')}"
     return ok(*before, len(written), laid_out(size, written))
 
 
@@ -249,8 +249,9 @@ def nth(index, data):
 
 
 def whole_list(data):
-    refusal, stepped = datasets.all_steps(data)
-    return ok(refusal, len(stepped), *map(show, stepped))
+    here, stepped = datasets.all_steps(data)
+    told = [here.refusal, here.place] if here.refusal else [0]
+    return ok(*told, len(stepped), *map(show, stepped))
 
 
 def step(data, code, place, left, refusal):
@@ -325,7 +326,7 @@ def paths(*words):
     try:
         joined, ends = tree.paths(tree.Table(*table), size)
     except Refused as refused:
-        return f"no {refused.number} {laid_out(size, b'')}"
+        return f"no {refused} {laid_out(size, b'')}"
     return ok(len(joined), laid_out(size, joined), show_list(ends))
 
 
@@ -403,7 +404,7 @@ def answer(line):
     except Malformed:
         return "?"
     except Refused as refused:
-        return f"no {refused.number}"
+        return f"no {refused}"
 
 
 def main():

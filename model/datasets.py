@@ -93,11 +93,11 @@ def nth(index, data):
 
 
 def list_of(data):
-    """Where the list begins: a refused dataset has its number, and nothing left."""
+    """Where the list begins: a refused dataset has its refusal's number and place, and nothing left."""
     try:
         read = read_property(data)
     except Refused as refused:
-        return ListPlace(type=0, place=0, left=0, refusal=refused.number)
+        return ListPlace(type=0, place=refused.place, left=0, refusal=refused.number)
     left = len(read.values) if read.form == LIST_FORM else 0
     return ListPlace(read.type, read.values_at, left, refusal=0)
 
@@ -114,13 +114,13 @@ def step(data, here):
 
 
 def all_steps(data):
-    """The list's refusal number, and every value that stepping gives before the end."""
-    here = list_of(data)
-    refusal, values = here.refusal, []
+    """Where the list begins, and every value that stepping gives before the end."""
+    start = here = list_of(data)
+    values = []
     while (stepped := step(data, here)) is not None:
         value, here = stepped
         values.append(value)
-    return refusal, values
+    return start, values
 
 
 def newer(description, payload):

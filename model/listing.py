@@ -29,13 +29,13 @@ def record_line(place, record, data):
 
 
 def listing(data):
-    """A line a record; a refusal stops the reading; the last line counts the whole records before."""
+    """A line a record; a refusal, its place from the record's start, stops the reading; the last line counts the whole records before."""
     lines, at, count = [HEADING], 0, 0
     while at < len(data):
         try:
             record = read_record(data, at)
         except Refused as refused:
-            lines.append(f"{at} refusal {refused.number}\n")
+            lines.append(f"{at} refusal {refused.seen_from(at)}\n")
             break
         lines.append(record_line(at, record, data))
         at, count = record.after, count + 1

@@ -3,7 +3,7 @@
 from collections import namedtuple
 
 from model.containers import read_container
-from model.refusals import LONG, RECORD, TRAIL, refuse_if
+from model.refusals import LONG, RECORD, TRAIL, Refused, refuse_if
 from model.values import read_number, take
 
 RECEIVED, SENT, NOTE = 1, 2, 3
@@ -26,15 +26,17 @@ def check_body(kind, body):
 
 
 def read_record(data, at=0):
-    """1 for six bytes, 13, 14, 1 for the body, then the body's own refusals."""
-    take(data, at, RECORD_HEADER)
-    length, _ = read_number(data, at, 4)
-    kind, start = read_number(data, at + 4, 2)
+    """1 for six bytes, 13, 14, 1 for the body, then the body's own refusals. Places count in the data."""
+    length, kind_at = read_number(data, at, 4)
+    kind, start = read_number(data, kind_at, 2)
     refuse_if(length < RECORD_HEADER, RECORD)
     check_kind(kind)
     refuse_if(length - RECORD_HEADER > MOST_BODY, LONG)
-    body, after = take(data, start, length - RECORD_HEADER)
-    check_body(kind, body)
+    body, after = take(data, start, length - RECORD_HEADER, start)
+    try:
+        check_body(kind, body)
+    except Refused as refused:
+        raise refused.seen_from(-start) from None
     return Record(kind, start, len(body), after)
 
 

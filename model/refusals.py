@@ -17,13 +17,21 @@ LONG = 14      # a record's body over 8,192 bytes
 
 
 class Refused(Exception):
-    """A refusal is its number and nothing more."""
+    """A refusal is its number and, of a reader's 1 and 2, the place of the first byte of the field that failed."""
 
-    def __init__(self, number):
-        super().__init__(number)
+    def __init__(self, number, place=None):
+        super().__init__(number, place)
         self.number = number
+        self.place = place
+
+    def __str__(self):
+        return str(self.number) if self.place is None else f"{self.number} {self.place}"
+
+    def seen_from(self, start):
+        """The same refusal, its place counted from another one."""
+        return Refused(self.number, None if self.place is None else self.place - start)
 
 
-def refuse_if(condition, number):
+def refuse_if(condition, number, place=None):
     if condition:
-        raise Refused(number)
+        raise Refused(number, place)

@@ -26,14 +26,14 @@ def item_code(code):
     return item if item in WIDTHS else None
 
 
-def take(data, at, count):
-    """The next `count` bytes. No bytes can be taken at any place, even past the end."""
-    refuse_if(count > max(0, len(data) - at), END)
+def take(data, at, count, field):
+    """The next `count` bytes, of the field that starts at `field`. No bytes can be taken at any place, even past the end."""
+    refuse_if(count > max(0, len(data) - at), END, field)
     return data[at:at + count], at + count
 
 
 def read_number(data, at, width):
-    taken, after = take(data, at, width)
+    taken, after = take(data, at, width, at)
     return int.from_bytes(taken, "little"), after
 
 
@@ -45,10 +45,10 @@ def number_of(code, taken):
 
 
 def read_array(code, data, at):
-    """A u32 count, then items. The product cannot overflow here."""
+    """A u32 count, then items: one field. The product cannot overflow here."""
     count, first = read_number(data, at, 4)
     width = WIDTHS[code]
-    taken, after = take(data, first, count * width)
+    taken, after = take(data, first, count * width, at)
     return [number_of(code, taken[i:i + width]) for i in range(0, len(taken), width)], after
 
 
@@ -57,11 +57,11 @@ def units_of(taken):
 
 
 def read_string(data, at):
-    """A count byte, count minus 1 units, one more that is not looked at. END comes before TEXT."""
+    """A count byte, count minus 1 units, one more that is not looked at: one field. END comes before TEXT."""
     count, first = read_number(data, at, 1)
-    taken, after = take(data, first, 2 * count)
+    taken, after = take(data, first, 2 * count, at)
     units = units_of(taken[:-2])
-    refuse_if(not is_paired(units), TEXT)
+    refuse_if(not is_paired(units), TEXT, at)
     return units, after
 
 
@@ -79,7 +79,7 @@ def is_paired(units):
 def read_value(code, data, at):
     """The value of the type that stands at the place, and the place after it."""
     if code in WIDTHS:
-        taken, after = take(data, at, WIDTHS[code])
+        taken, after = take(data, at, WIDTHS[code], at)
         return number_of(code, taken), after
     if item_code(code) is not None:
         return read_array(item_code(code), data, at)
@@ -122,7 +122,7 @@ def write_number(code, value):
 
 
 def write_string(units):
-    """Tidy: empty is the byte 0; else the count is units plus 1 and the last unit is 0. 2, then 10."""
+    """Tidy: empty is the byte 0; else the count is units plus 1 and the last unit is 0. 2, which has no place here, then 10."""
     refuse_if(not is_paired(units), TEXT)
     refuse_if(len(units) > MOST_UNITS, COUNT)
     if not units:

@@ -70,12 +70,13 @@ extern "C" {
     ) -> i64;
 }
 
-// How many were given, or minus the refusal's number.
+// How many were given, or minus (the refusal's number and 256 times its place). No slice has 2^55 bytes, so the place is exact.
 fn told(answer: i64) -> Result<usize, Refusal> {
     if answer >= 0 {
         return Ok(answer as usize);
     }
-    Err(Refusal::from_number(answer.unsigned_abs()).expect("the archive refuses by 1 to 14"))
+    let refusal = answer.unsigned_abs();
+    Err(Refusal::from_number(refusal % 256, (refusal / 256) as usize).expect("the archive refuses by 1 to 14"))
 }
 
 // `f` is one of the archive's.
@@ -227,7 +228,7 @@ mod tests {
     fn refused_rows_keep_their_numbers() {
         for f in [ptp_device_info as ReadsBytes, ptp_object_info, ptp_storage_info, ptp_prop_info, ptp_read_record] {
             let mut out = [KEPT; 32];
-            assert_eq!(read_into(f, &[6], &mut out), Err(Refusal::END));
+            assert_eq!(read_into(f, &[6], &mut out), Err(Refusal::END { at: 0 }));
             assert_eq!(out, [KEPT; 32]);
         }
     }

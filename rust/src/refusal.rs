@@ -2,52 +2,71 @@
 use core::fmt;
 
 /// The fourteen refusals. Where several conditions hold, a call gives the first in its own order.
+///
+/// What could not be read is told with `at`, the place of the first byte of the field that failed: an array's count, a string's count byte,
+/// a list's failing value. It counts in the bytes that were lent; of an object's name in that name.
 #[derive(Clone, Copy, Debug, PartialEq, Eq, Hash)]
-#[repr(u8)]
 pub enum Refusal {
     /// the input stops before a field is whole
-    END = 1,
+    END { at: usize },
     /// a string's units hold an unpaired surrogate
-    TEXT = 2,
+    TEXT { at: usize },
     /// bytes follow what must fill its place
-    TRAIL = 3,
+    TRAIL,
     /// a container's kind is not 1 to 4
-    KIND = 4,
+    KIND,
     /// a container's length is below 12
-    LENGTH = 5,
+    LENGTH,
     /// a container's bytes stop before its announced length
-    SIZE = 6,
+    SIZE,
     /// a container carries another transaction number
-    TID = 7,
+    TID,
     /// the containers stop, and no Response was seen
-    NOPHASE = 8,
+    NOPHASE,
     /// the output is shorter than the exact need
-    ROOM = 9,
+    ROOM,
     /// too many parameters, or a payload that is too long
-    COUNT = 10,
+    COUNT,
     /// the object table breaks its rule
-    TABLE = 11,
+    TABLE,
     /// an index that does not exist
-    PLACE = 12,
+    PLACE,
     /// a record's length is below 6, or its kind not 1 to 3
-    RECORD = 13,
+    RECORD,
     /// a record's body is over 8,192 bytes
-    LONG = 14,
+    LONG,
 }
 
 use Refusal::*;
 
-const ALL: [Refusal; 14] = [END, TEXT, TRAIL, KIND, LENGTH, SIZE, TID, NOPHASE, ROOM, COUNT, TABLE, PLACE, RECORD, LONG];
+// Those without a place, from 3 on.
+const PLAIN: [Refusal; 12] = [TRAIL, KIND, LENGTH, SIZE, TID, NOPHASE, ROOM, COUNT, TABLE, PLACE, RECORD, LONG];
 
 impl Refusal {
     /// Its number, 1 to 14.
-    pub const fn number(self) -> u8 {
-        self as u8
+    pub fn number(self) -> u8 {
+        match self {
+            END { .. } => 1,
+            TEXT { .. } => 2,
+            plain => 3 + PLAIN.iter().position(|each| *each == plain).expect("all are there") as u8,
+        }
     }
 
-    /// The refusal of a number, if there is one.
-    pub fn from_number(number: u64) -> Option<Refusal> {
-        ALL.into_iter().find(|refusal| u64::from(refusal.number()) == number)
+    /// The place of the first byte of the field that failed, of END and TEXT.
+    pub fn place(self) -> Option<usize> {
+        match self {
+            END { at } | TEXT { at } => Some(at),
+            _ => None,
+        }
+    }
+
+    /// The refusal of a number, if there is one, with its place, which only 1 and 2 have.
+    pub fn from_number(number: u64, at: usize) -> Option<Refusal> {
+        match number {
+            1 => Some(END { at }),
+            2 => Some(TEXT { at }),
+            plain => PLAIN.get(usize::try_from(plain.checked_sub(3)?).ok()?).copied(),
+        }
     }
 }
 

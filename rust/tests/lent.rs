@@ -32,9 +32,12 @@ fn tidy_needs_its_exact_room() {
 
 #[test]
 fn tidy_refused_by_its_reading_writes_nothing() {
+    // the first bytes of its fields: numbers, two strings, form byte, count, two strings
+    const FIELDS: [usize; 10] = [0, 2, 4, 5, 6, 7, 10, 11, 13, 14];
     for cut in 0..LIST.len() {
         let mut out = [KEPT; 32];
-        assert_eq!(tidy_property(&LIST[..cut], &mut out), Err(Refusal::END));
+        let at = FIELDS.into_iter().rev().find(|&field| field <= cut).unwrap();
+        assert_eq!(tidy_property(&LIST[..cut], &mut out), Err(Refusal::END { at }));
         assert_eq!(out, [KEPT; 32]);
     }
 }
@@ -112,7 +115,7 @@ fn paths_need_their_exact_room() {
 fn refused_table_writes_nothing() {
     let late_parent = ObjectTable { parents: &[0, 0, 3, 0], ..TABLE };
     let short_names = ObjectTable { ends: &[1, 6, 10, 16], ..TABLE };
-    for (table, why) in [(late_parent, Refusal::TABLE), (short_names, Refusal::END)] {
+    for (table, why) in [(late_parent, Refusal::TABLE), (short_names, Refusal::END { at: 0 })] {
         let (mut out, mut ends, mut places) = ([KEPT; 8], [9; 4], [9; 4]);
         assert_eq!(table.paths(&mut out, &mut ends), Err(why));
         assert_eq!(table.walk(&mut places), Err(why));
@@ -131,7 +134,7 @@ fn an_index_past_the_list_is_refused() {
         assert_eq!(PtpPropInfo::nth(&LIST, n), Err(Refusal::PLACE));
     }
     assert_eq!(PtpPropInfo::nth(&RANGE, 0), Err(Refusal::PLACE));
-    assert_eq!(PtpPropInfo::nth(&RANGE[..11], 0), Err(Refusal::END));
+    assert_eq!(PtpPropInfo::nth(&RANGE[..11], 0), Err(Refusal::END { at: 11 }));
 }
 
 #[test]

@@ -1,15 +1,15 @@
--- What every exported function answers: how many numbers or bytes it gave, or minus its refusal's number; and what it leaves.
+-- What every exported function answers: how many numbers or bytes it gave, or minus (its refusal's number and 256 times its place); and what it leaves.
 -- Assumes nothing.
 use mathlib.Core.Path.{_≡_}
 use mathlib.Core.List.{List, _∷_}
-use Prim.Native.Nat.{ℕ, _-_, _%_, _^_}
+use Prim.Native.Nat.{ℕ, _+_, _-_, _*_, _%_, _^_}
 use Rattle.layout.specs.Answer.{Answer, got, refused}
 use Rattle.layout.specs.Written.{Said, says, no, Wrote}
 
 -- minus as a word of 64 bits has it
 unfoldable pub word : {A : Type 0} → Answer A → ℕ
 word (got a n) = n
-word (refused t) = (2 ^ 64 - t .no) % 2 ^ 64
+word (refused t) = (2 ^ 64 - (256 * t .at + t .no) % 2 ^ 64) % 2 ^ 64
 
 -- an answer that is allowed, as its word
 pub record Tells {A : Type 0} (allowed : Answer A → Type 0) (r : ℕ) : Type 0 where

@@ -1,16 +1,28 @@
 // What every exported function answers, and how it gives its numbers.
 ghost use mathlib.Core.Path.{_≡_};
+ghost use Prim.Native.Nat.{_+_, _*_, _%_, _^_};
 ghost use Rattle.layout.specs.Written.{Wrote, says, saysWritten};
 ghost use Rattle.abi.specs.Answered.{word};
+use layout::Refusal;
 use layout::Written;
 
-// How many were given; or minus the refusal's number, as a machine word has it.
+// 2^56: a place's product with 256 goes by what is left of it, for the rest passes a word of 64 bits.
+const PLACES: u64 = 72057594037927936;
+
+// A refusal's number and 256 times its place, as far as a machine word has them.
+fn number_and_place(f: Refusal) -> u64
+    ensures { λ r. ⌜ r ≡ (256 * f .at + f .no) % 2 ^ 64 ⌝ }
+{
+    256 * (f.at as u64 % PLACES) + f.no as u64
+}
+
+// How many were given; or minus (the refusal's number and 256 times its place), as a machine word has it.
 pub fn told(w: Written) -> u64
     ensures { λ r. ⌜ r ≡ word (saysWritten w) ⌝ }
 {
     match w {
         Written::Done(n) => n as u64,
-        Written::Refused(f) => std::num::wrapping_sub_u64(0, f.no as u64),
+        Written::Refused(f) => std::num::wrapping_sub_u64(0, number_and_place(f)),
     }
 }
 

@@ -2,9 +2,11 @@
 ghost use mathlib.Core.Path.{_≡_};
 ghost use Rattle.wire.specs.List.{placeOf, stepAt, saysStep};
 use crate::show;
+use wire::Place;
 use wire::Step;
 use wire::Values;
 use words::told;
+use words::told::Told;
 
 // The step from the list's beginning.
 fn first(src: &[u8]) -> Step
@@ -63,9 +65,18 @@ fn print_steps(src: &[u8], ty: u16, refusal: u8, text: &mut [u8], to: usize) -> 
     o
 }
 
+// Of a refused description the list has the place that the refusal tells.
+fn head(p: Place, steps: u64) -> Told {
+    let t = told::ok().number(p.refusal as u64);
+    if p.refusal != 0 {
+        return t.number(p.at as u64).number(steps);
+    }
+    t.number(steps)
+}
+
 pub fn answer(src: &[u8], text: &mut [u8], at: usize) -> usize {
     let p = wire::place_of(src);
     let n = steps(src, p.ty, p.refusal);
-    let o = show::tell(text, at, src, told::ok().number(p.refusal as u64).number(n));
+    let o = show::tell(text, at, src, head(p, n));
     print_steps(src, p.ty, p.refusal, text, o)
 }

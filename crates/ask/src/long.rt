@@ -17,8 +17,9 @@ fn walk(a: Args, src: &[u8], halves: &[u16], numbers: &[u32], text: &mut [u8], a
         slice::part32(numbers, a.numbers[2], a.counts[2]),
         src,
     );
-    if order.refusal != 0 {
-        return show::tell(text, at, src, told::refused(layout::plain(order.refusal)));
+    let refusal = order.refusal;
+    if refusal.no != 0 {
+        return show::tell(text, at, src, told::refused(refusal));
     }
     let places = order.places;
     let o = print::put_all(text, at, b"ok ");

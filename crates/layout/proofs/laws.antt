@@ -15,3 +15,5 @@ pub mod Did
 pub mod Local
 pub mod Final
 pub mod Decided
+pub mod Spotted
+pub mod Told

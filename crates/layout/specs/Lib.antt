@@ -8,3 +8,5 @@ pub mod Written
 pub mod Faithful
 pub mod Placed
 pub mod Fault
+pub mod Spot
+pub mod Told

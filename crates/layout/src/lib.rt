@@ -37,8 +37,11 @@ pub const RECORD: u8 = 13;
 
 pub const LONG: u8 = 14;
 
+// Which refusal; and, of a reader's 1 and 2, the first byte of the field that failed. Where there is no place, `at` is 0.
 pub struct Refusal {
     pub no: u8,
+    pub placed: bool,
+    pub at: usize,
 }
 
 // How many bytes were written.
@@ -51,19 +54,31 @@ pub enum Written {
 pub fn end_at(place: usize) -> Refusal
     ensures { λ r. ⌜ r ≡ endAt place ⌝ }
 {
-    Refusal { no: END }
+    Refusal {
+        no: END,
+        placed: true,
+        at: place,
+    }
 }
 
 // 2 TEXT: the string that starts at the place has an unpaired surrogate.
 pub fn bad_text(place: usize) -> Refusal
     ensures { λ r. ⌜ r ≡ badText place ⌝ }
 {
-    Refusal { no: TEXT }
+    Refusal {
+        no: TEXT,
+        placed: true,
+        at: place,
+    }
 }
 
-// Any other refusal.
+// Any other refusal, which has no place.
 pub fn plain(number: u8) -> Refusal
     ensures { λ r. ⌜ r ≡ bare number ⌝ }
 {
-    Refusal { no: number }
+    Refusal {
+        no: number,
+        placed: false,
+        at: 0,
+    }
 }

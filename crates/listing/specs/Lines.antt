@@ -1,6 +1,6 @@
 -- The lines of a listing, as bytes.
 -- Assumes nothing.
-use mathlib.Core.List.{List, _++_}
+use mathlib.Core.List.{List, [], _++_}
 use mathlib.Core.Option.{Option, some, none}
 use Prim.Native.Nat.{ℕ, zero, suc, _/_}
 use lib.Dec.{ltb, eqb}
@@ -59,8 +59,12 @@ containerLine place kind x = decimal place ++ wayText kind ++ kindText (x .kind)
 unfoldable pub noteLine : ℕ → ℕ → List ℕ
 noteLine place count = decimal place ++ spelled " note " ++ decimal count ++ spelled "\n"
 
+-- where the field that failed begins, from the record's start; nothing of a refusal that has no place
+unfoldable pub atText : Told → List ℕ
+atText t = pick (t .placed) (spelled " " ++ decimal (t .at)) []
+
 unfoldable pub refusalLine : ℕ → Told → List ℕ
-refusalLine place t = decimal place ++ spelled " refusal " ++ decimal (t .no) ++ spelled "\n"
+refusalLine place t = decimal place ++ spelled " refusal " ++ decimal (t .no) ++ atText t ++ spelled "\n"
 
 unfoldable pub ending : ℕ → ℕ → List ℕ
 ending records count = spelled "records " ++ decimal records ++ spelled " bytes " ++ decimal count ++ spelled "\n"

@@ -6,7 +6,7 @@ ghost use Rattle.layout.specs.Written.{Put};
 ghost use Rattle.names.specs.Names.{nameBytes, given};
 ghost use Rattle.names.specs.Says.{saysName, bytesAt, Inside};
 ghost use Rattle.recording.specs.Record.{recordFrom};
-ghost use Rattle.listing.specs.Lines.{heading, decimal, hexCode, wayText, kindText, nameFor, codeText, countsText, containerLine, noteLine, refusalLine, recordLine, ending};
+ghost use Rattle.listing.specs.Lines.{heading, decimal, hexCode, wayText, kindText, nameFor, codeText, countsText, containerLine, noteLine, atText, refusalLine, recordLine, ending};
 use crate::decimal;
 use layout::Refusal;
 use names::Name;
@@ -148,6 +148,18 @@ fn put_note(place: u64, count: u64, out: &mut [u8], at: usize) -> usize
     put_bytes(b"\n", out, c)
 }
 
+// The place that a refusal tells, behind a space; nothing of one that tells none.
+fn put_at(f: Refusal, out: &mut [u8], at: usize) -> usize
+    requires { ⌜ at + length (atText f) ≤ length (now out) ⌝ }
+    ensures { λ r. ⌜ Put (now (out .entry)) at (atText f) (now (out .exit)) r ⌝ }
+{
+    if !f.placed {
+        return at;
+    }
+    let a = put_bytes(b" ", out, at);
+    decimal::put(f.at as u64, out, a)
+}
+
 pub(crate) fn put_refusal(place: u64, f: Refusal, out: &mut [u8], at: usize) -> usize
     requires { ⌜ at + length (refusalLine place f) ≤ length (now out) ⌝ }
     ensures { λ r. ⌜ Put (now (out .entry)) at (refusalLine place f) (now (out .exit)) r ⌝ }
@@ -155,7 +167,8 @@ pub(crate) fn put_refusal(place: u64, f: Refusal, out: &mut [u8], at: usize) -> 
     let a = decimal::put_place(place, out, at);
     let b = put_bytes(b" refusal ", out, a);
     let c = decimal::put(f.no as u64, out, b);
-    put_bytes(b"\n", out, c)
+    let d = put_at(f, out, c);
+    put_bytes(b"\n", out, d)
 }
 
 pub(crate) fn put_record(place: u64, x: Record, names: &[u8], out: &mut [u8], at: usize) -> usize

@@ -24,7 +24,7 @@ use Rattle.recording.specs.declared.Head.{Head}
 use Rattle.recording.specs.declared.ReadRecord.{ReadRecord}
 use Rattle.recording.specs.Content.{Record}
 use Rattle.recording.proofs.Judged.{HeadSays, head-judged, record-says}
-use Rattle.recording.proofs.Recorded.{end-no, bare-no}
+use Rattle.layout.proofs.laws.Told.{end-no, bare-no}
 use Rattle.recording.proofs.laws.Rowed.{uncut-same}
 
 -- ── whether a record is cut ──

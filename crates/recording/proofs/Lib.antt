@@ -4,3 +4,4 @@ pub mod Unique
 pub mod Judged
 pub mod Lasting
 pub mod ReadBack
+pub mod Told

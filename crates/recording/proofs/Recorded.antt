@@ -54,15 +54,6 @@ module _ (len kind : ℕ) (s : List ℕ) (start : ℕ) where
   unfolding bodyAt means
   body-there e l k = rw (e, le-leb (len - 6) limit l, span-there start (len - 6) s start k)
 
--- by its number a refusal is END or is not
-pub end-no : (place : ℕ) → endAt place .no ≡ END
-unfolding endAt
-end-no place = refl
-
-pub bare-no : (number : ℕ) → bare number .no ≡ number
-unfolding bare
-bare-no number = refl
-
 -- ── writing ──
 
 module _ (kind : ℕ) (body : List ℕ) where

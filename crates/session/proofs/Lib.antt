@@ -4,3 +4,4 @@ pub mod Filled
 pub mod Unique
 pub mod ReadBack
 pub mod Numbers
+pub mod Told

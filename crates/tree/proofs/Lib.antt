@@ -3,6 +3,7 @@ pub mod Counts
 pub mod Alone
 pub mod Grown
 pub mod Tables
+pub mod Told
 pub mod Scans
 pub mod Routes
 pub mod Trails

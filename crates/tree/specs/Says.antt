@@ -4,7 +4,7 @@ use mathlib.Core.Path.{_≡_}
 use mathlib.Core.List.{List, _++_}
 use Prim.Native.Nat.{ℕ}
 use lib.ListN.{length, drop, replicate}
-use Rattle.layout.specs.Answer.{Told, Answer, got, refused}
+use Rattle.layout.specs.Answer.{Told, Answer, got, refused, bare}
 use Rattle.tree.specs.Table.{Table, tableAt}
 use Rattle.tree.specs.Way.{within, Walk}
 use Rattle.tree.specs.declared.Checked.{Checked}
@@ -27,7 +27,7 @@ pub record Walks (ps old : List ℕ) (r : ℕ) (new : List ℕ) : Type 0 where
 abbrev pub empty : List ℕ
 empty = replicate 1024 0
 
--- a table that is accepted has its walk, with the number 0, and the places behind it are 0; any other has its refusal's number and no place
+-- a table that is accepted has its walk, with no refusal, whose number is 0, and the places behind it are 0; any other has its refusal and no place
 pub data OrderSays (t : Table) (r : Order) : Type 0 where
-  order : {n : ℕ} → tableAt t ≡ got tt n → r .refusal ≡ 0 → Walks (t .parents) empty (r .count) (r .places) → OrderSays t r
-  no-order : {why : Told} → tableAt t ≡ refused why → r .refusal ≡ why .no → r .count ≡ 0 → r .places ≡ empty → OrderSays t r
+  order : {n : ℕ} → tableAt t ≡ got tt n → r .refusal ≡ bare 0 → Walks (t .parents) empty (r .count) (r .places) → OrderSays t r
+  no-order : {why : Told} → tableAt t ≡ refused why → r .refusal ≡ why → r .count ≡ 0 → r .places ≡ empty → OrderSays t r

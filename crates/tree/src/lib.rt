@@ -20,7 +20,7 @@ pub enum Checked {
 
 // The first `count` of `places`, the others are 0; or why there is none (0 for none), with no places.
 pub struct Order {
-    pub refusal: u8,
+    pub refusal: Refusal,
     pub count: usize,
     pub places: [u16; 1024],
 }

@@ -62,19 +62,16 @@ pub fn walk(handles: &[u32], parents: &[u16], ends: &[u32], names: &[u8]) -> Ord
         Checked::Whole(_) => {
             let count = walk_ruled(parents, &mut places);
             Order {
-                refusal: 0,
+                refusal: layout::plain(0),
                 count,
                 places,
             }
         }
-        Checked::Refused(f) => {
-            let refusal = f.no;
-            Order {
-                refusal,
-                count: 0,
-                places,
-            }
-        }
+        Checked::Refused(f) => Order {
+            refusal: f,
+            count: 0,
+            places,
+        },
     }
 }
 

@@ -34,7 +34,7 @@ use Rattle.wire.proofs.Formats.{all-units-format, text-format, value-fo
 all-units-clean : (n : ℕ) → Faulted Clean (all-units n)
 all-units-clean n = same-faults all-clean (λ w b. first b) (then-faults (cells-format 2 n) (cells-faults 2 n) λ _. spare-faults 2)
 
-units-faults : (n : ℕ) → Faulted (UnitsFault n) (units n)
+pub units-faults : (n : ℕ) → Faulted (UnitsFault n) (units n)
 units-faults zero = nothing-faults []
 units-faults (suc n) = such-faults paired (as-format _ (all-units-format n) _ λ w x g. refl) (as-faults _ _ (all-units-clean n))
 

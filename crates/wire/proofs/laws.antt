@@ -9,3 +9,4 @@ pub mod Nths
 pub mod Picked
 pub mod Judged
 pub mod ReadBack
+pub mod Told

@@ -4,11 +4,11 @@ use mathlib.Core.List.{List, _++_}
 use Prim.Native.Nat.{ℕ, _/_, _%_}
 use lib.Dec.{leb, eqb}
 use lib.ListN.{length}
-use Rattle.layout.specs.Answer.{pick, badText, bare}
+use Rattle.layout.specs.Answer.{pick, bare}
 use Rattle.layout.specs.Bytes.{bytes, cells}
 use Rattle.layout.specs.Codec.{celled}
 use Rattle.layout.specs.Written.{Said, says, no}
-use Rattle.layout.specs.Refusals.{COUNT, PLACE}
+use Rattle.layout.specs.Refusals.{TEXT, COUNT, PLACE}
 use Rattle.wire.specs.Layout.{sint, uint, wide, width, int, nat, pair, paired, Shape, one, many, string, undef, shape, Val, num, nil}
 use Rattle.wire.specs.Codecs.{text, array, shaped}
 use Rattle.wire.specs.declared.given.Bits.{Bits}
@@ -53,7 +53,7 @@ integerBits b = bytes (b .front) (b .low) ++ bytes (b .back) (b .high)
 -- ── a string from its units: 2, then 10 over 254 units ──
 
 unfoldable pub textSaid : List ℕ → Said
-textSaid us = pick (paired us) (pick (leb (length us) 254) (says (text .write us)) (no (bare COUNT))) (no (badText 0))
+textSaid us = pick (paired us) (pick (leb (length us) 254) (says (text .write us)) (no (bare COUNT))) (no (bare TEXT))
 
 -- units one after the other
 unfoldable pub unitsWord : List ℕ → List ℕ

@@ -43,7 +43,7 @@ saysNth (readNth.Refused t) = refused t
 
 -- ── the list handed out ──
 
--- no list, or a refused description, leaves none
+-- no list leaves none, nor does a refused description, of which `at` is the place that its refusal tells
 abbrev pub placeIn : ℕ → Form → Place
 placeIn t (form.list p count) = record { ty = t; at = p .start; left = count; refusal = 0 }
 placeIn t (form.range a b c) = record { ty = t; at = 0; left = 0; refusal = 0 }
@@ -51,7 +51,7 @@ placeIn t form.absent = record { ty = t; at = 0; left = 0; refusal = 0 }
 
 abbrev pub placeFrom : Answer PropInfo → Place
 placeFrom (got x n) = placeIn (x .«data_type») (x .form)
-placeFrom (refused t) = record { ty = 0; at = 0; left = 0; refusal = t .no }
+placeFrom (refused t) = record { ty = 0; at = t .at; left = 0; refusal = t .no }
 
 abbrev pub placeOf : List ℕ → Place
 placeOf s = placeFrom (propertyAt s 0)

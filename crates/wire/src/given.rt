@@ -160,7 +160,7 @@ pub fn write_text(units: &[u16], out: &mut [u8]) -> Written
     ensures { λ r. ⌜ Wrote (textSaid (now (units .entry))) (now (out .entry)) (saysWritten r) (now (out .exit)) ⌝ }
 {
     if !units_paired(units) {
-        return Written::Refused(layout::bad_text(0));
+        return Written::Refused(layout::plain(layout::TEXT));
     }
     if 254 < units.len() {
         return Written::Refused(layout::plain(layout::COUNT));

@@ -126,7 +126,7 @@ pub fn place_of(s: &[u8]) -> Place
         }
         ReadProperty::Refused(f) => Place {
             ty: 0,
-            at: 0,
+            at: f.at,
             left: 0,
             refusal: f.no,
         },

@@ -85,9 +85,13 @@ pub fn ok() -> Told {
     say(b"ok")
 }
 
-// Every refusal is told here.
+// Every refusal is told here: its number, and its place where it has one.
 pub fn refused(f: Refusal) -> Told {
-    say(b"no").number(f.no as u64)
+    let t = say(b"no").number(f.no as u64);
+    if f.placed {
+        return t.number(f.at as u64);
+    }
+    t
 }
 
 pub fn written(w: Written) -> Told {

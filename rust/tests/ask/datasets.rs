@@ -127,7 +127,7 @@ pub fn list(s: &str) -> Option<String> {
     let array = match PtpPropInfo::decode(&s) {
         Ok((PtpPropInfo { Form: PtpFormData::Enumeration { array }, .. }, _)) => array,
         Ok(_) => return Some("ok 0 0".into()),
-        Err(why) => return Some(format!("ok {} 0", why.number())),
+        Err(why) => return Some(format!("ok {} 0", show::told(why))),
     };
     let values: Vec<_> = array.iter().collect();
     for (n, stepped) in values.iter().enumerate() {

@@ -179,6 +179,7 @@ fn in_record(body: &[u8]) -> String {
             let start = show::start(x.payload, read.body);
             format!("ok {} {} {} {start} {}", x.kind as u16, x.code, x.tid, x.payload.len())
         }
+        Err(Refusal::END { at }) => show::refusal(Refusal::END { at: at - 6 }),
         Err(why) => show::refusal(why),
     }
 }

@@ -3,7 +3,15 @@ use ptp_proved::{PtpArray, PtpDataType, PtpItem, PtpString, PtpValue, Refusal};
 use std::fmt::Display;
 
 pub fn refusal(why: Refusal) -> String {
-    format!("no {}", why.number())
+    format!("no {}", told(why))
+}
+
+/// Its number, and its place where it has one.
+pub fn told(why: Refusal) -> String {
+    match why.place() {
+        Some(at) => format!("{} {at}", why.number()),
+        None => why.number().to_string(),
+    }
 }
 
 pub fn bytes(bytes: &[u8]) -> String {

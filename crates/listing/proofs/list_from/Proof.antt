@@ -86,7 +86,8 @@ returns c =
 put-refusal-requires : tie.Need-put-refusal-requires Inv-loop μ-loop
 put-refusal-requires c κs =
     let l = c .before .before .before .before .before .before .before .before .before in
-    let h = refusal-short (l .loop .place) (c .before .before .before .before .f .given .0 .0) (l .loop .inv .2) (c .before .before .before .known-told2 .given .0 .1 .1 .0 .1) in
+    let f = c .before .before .before .known-told2 .given .0 .1 .1 in
+    let h = refusal-short (l .loop .place) (c .before .before .before .before .f .given .0 .0) (l .loop .inv .2) (f .0 .1) (f .1 .1 .0 .1) in
     omega (arith, c .before .before .before .before .before .before .before .before .loop-test .taken)
 
 returns-2 : tie.Need-returns-2 Inv-loop μ-loop
@@ -98,7 +99,8 @@ returns-2 c =
     let rest = drop (l .loop .used) s in
     let ready : waits (a .last) rest ≡ false = rw (part-from s (l .loop .used)) at (sym (c .before .before .before .before .before .before .waits .ensures) ∙ c .before .before .before .before .before .if1 .left) in
     let e : refused (k .f .given .0 .0) ≡ recordOf rest = rw (part-from s (l .loop .used)) at (heard saysRecord (k .f .given .1) (k .before .before .read-record .ensures)) in
-    let h = refusal-short (l .loop .place) (k .f .given .0 .0) (l .loop .inv .2) (c .before .before .before .before .before .before .before .known-told2 .given .0 .1 .1 .0 .1) in
+    let f = c .before .before .before .before .before .before .before .known-told2 .given .0 .1 .1 in
+    let h = refusal-short (l .loop .place) (k .f .given .0 .0) (l .loop .inv .2) (f .0 .1) (f .1 .1 .0 .1) in
     rw (c .answer2 .ensures) (wrong (a .last) s (l .loop .place) (l .loop .records) (l .loop .inv .0) (k .before .before .before .before .loop-test .taken) ready e h (c .before .before .before .put-refusal .ensures))
 
 returns-3 : tie.Need-returns-3 Inv-loop μ-loop

@@ -26,7 +26,7 @@ use Rattle.recording.specs.Record.{limit, contentAt, headOf, recordOf}
 use Rattle.recording.specs.Row.{followed, found, recordsIn, isEnd, isCut}
 use Rattle.recording.specs.declared.Head.{Head}
 use Rattle.recording.proofs.Judged.{HeadSays, head-judged, head-one}
-use Rattle.recording.proofs.Recorded.{end-no, bare-no}
+use Rattle.layout.proofs.laws.Told.{end-no, bare-no}
 
 -- ── where a record ends ──
 

@@ -35,12 +35,12 @@ module _ {ps old : List ℕ} {r s : ℕ} {l m : List ℕ} (p : Walks ps old r l)
   pub places : l ≡ m
   places = p .places ∙ ap (λ (x : List ℕ). x ++ drop (length x) old) lists ∙ sym (q .places)
 
-abbrev made : ℕ → ℕ → List ℕ → Order
+abbrev made : Told → ℕ → List ℕ → Order
 made a b c = record { refusal = a; count = b; places = c }
 
 orders : (r s : Order) → r .refusal ≡ s .refusal → r .count ≡ s .count → r .places ≡ s .places → r ≡ s
 orders r s a b c =
-    ap (λ (x : ℕ). made x (r .count) (r .places)) a
+    ap (λ (x : Told). made x (r .count) (r .places)) a
     ∙ ap (λ (x : ℕ). made (s .refusal) x (r .places)) b
     ∙ ap (made (s .refusal) (s .count)) c
 
@@ -50,7 +50,7 @@ one-order t r s (order a e w) (no-order b f g h) = zero-one (cc)
 one-order t r s (no-order a e g h) (order b f w) = zero-one (cc)
 one-order t r s (no-order {why = x} a e g h) (no-order {why = y} b f i j) =
     let same : x ≡ y = cc in
-    orders r s (e ∙ ap (λ (z : Told). z .no) same ∙ sym f) (g ∙ sym i) (h ∙ sym j)
+    orders r s (e ∙ same ∙ sym f) (g ∙ sym i) (h ∙ sym j)
 
 -- what is said of the walk and of all paths goes by the table alone
 module _ (t : Table) (l m : List ℕ) (room : ℕ)

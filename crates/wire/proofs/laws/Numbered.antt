@@ -17,7 +17,7 @@ use lib.Signed.{mag, ltZ}
 use mir.Syntax.{w64}
 use mir.Val.{SFits, toZ, ofZ}
 use mir.ValLaws.{toZ-ofZ}
-use Rattle.layout.specs.Answer.{bare, badText}
+use Rattle.layout.specs.Answer.{bare}
 use Rattle.layout.specs.Bytes.{Bytes, bytes, cells}
 use Rattle.layout.specs.Codec.{celled}
 use Rattle.layout.specs.Grammar.{Number}
@@ -26,7 +26,7 @@ use Rattle.layout.proofs.laws.Make.{cells-all, cells-format}
 use Rattle.layout.proofs.laws.Numbers.{length-bytes}
 use Rattle.layout.proofs.laws.Single.{single-number, single-repeat}
 use Rattle.layout.proofs.laws.Tidied.{zero-one}
-use Rattle.layout.specs.Refusals.{COUNT}
+use Rattle.layout.specs.Refusals.{TEXT, COUNT}
 use Rattle.wire.specs.declared.given.Bits.{Bits}
 use Rattle.wire.specs.Layout.{paired}
 use Rattle.wire.specs.Codecs.{unsigned, array}
@@ -143,7 +143,7 @@ given-size us r h = go (length us) refl
     go (suc n) e = let some : length us ≡ 0 → ⊥ = λ z. omega arith in h .1 some ∙ sym (some-size us some)
 
 module _ (us : List ℕ) where
-  pub said-unpaired : paired us ≡ false → textSaid us ≡ no (badText 0)
+  pub said-unpaired : paired us ≡ false → textSaid us ≡ no (bare TEXT)
   unfolding textSaid
   said-unpaired e = rw e
 

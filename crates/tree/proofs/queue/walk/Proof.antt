@@ -14,9 +14,9 @@ walk-ruled-requires c κs =
 
 returns : tie.Need-returns
 returns c =
-    let w = c .before in
+    let w = c .before .before in
     let e = w .before .before in
-    order (sym (heard saysChecked (e .enum-told .given .1) (e .before .before .check-table .ensures))) refl (w .walk-ruled .ensures)
+    order (sym (heard saysChecked (e .enum-told .given .1) (e .before .before .check-table .ensures))) (c .plain .ensures) (w .walk-ruled .ensures)
 
 returns-2 : tie.Need-returns-2
 returns-2 c = no-order (sym (heard saysChecked (c .before .f .given .1) (c .before .before .before .check-table .ensures))) refl refl refl
@@ -29,6 +29,7 @@ walk-spec =
     (λ c. search needs)
     (λ c. search needs)
     walk-ruled-requires
+    (λ c κs. search needs)
     (λ c. search needs)
     returns
     returns-2)

@@ -13,18 +13,18 @@ use Rattle.wire.proofs.given.write_text.Tie as tie
 returns : tie.Need-returns
 returns c =
     let us = now (c .before .before .before .before .before .args .units) in
-    refusal (said-unpaired us (sym (c .before .before .units-paired .ensures) ∙ not-true _ (c .before .if1 .taken)) ∙ ap no (sym (c .bad-text .ensures)))
+    refusal (said-unpaired us (sym (c .before .before .units-paired .ensures) ∙ not-true _ (c .before .if1 .taken)) ∙ ap no (sym (c .plain .ensures)))
 
 returns-2 : tie.Need-returns-2
 returns-2 c =
     let us = now (c .before .before .before .before .before .before .args .units) in
-    refusal (said-long us (sym (c .before .before .before .units-paired .ensures) ∙ not-false _ (c .before .before .if1 .left)) (c .before .if2 .taken) ∙ ap no (sym (c .plain .ensures)))
+    refusal (said-long us (sym (c .before .before .before .units-paired .ensures) ∙ not-false _ (c .before .before .if1 .left)) (c .before .if2 .taken) ∙ ap no (sym (c .plain2 .ensures)))
 
 returns-3 : tie.Need-returns-3
 returns-3 c =
     let us = now (c .before .before .before .before .before .before .before .before .args .units) in
     let l = given-size us (c .before .before .text-len .result) (c .before .before .text-len .ensures) in
-    no-room (said-text us (sym (c .before .before .before .before .before .units-paired .ensures) ∙ not-false _ (c .before .before .before .before .if1 .left)) (c .before .before .before .if2 .left)) (omega arith) (c .plain2 .ensures)
+    no-room (said-text us (sym (c .before .before .before .before .before .units-paired .ensures) ∙ not-false _ (c .before .before .before .before .if1 .left)) (c .before .before .before .if2 .left)) (omega arith) (c .plain3 .ensures)
 
 put-text-requires : tie.Need-put-text-requires
 put-text-requires c κs =
