@@ -1,6 +1,6 @@
-/* The byte layer of the picture transfer protocol: twelve proved functions, in C.
+/* The byte layer of the picture transfer protocol: thirteen proved functions, in C.
  *
- * Each function answers how many numbers or bytes it gave, 0 or more; or a refusal, below 0: minus (its number, 1 to 14, and 256 times its
+ * Each function answers how many numbers or bytes it gave, 0 or more; or a refusal, below 0: minus (its number, 1 to 16, and 256 times its
  * place), which ptp_refusal_number and ptp_refusal_place take apart. The place is that of the first byte of the field that failed, for
  * END and TEXT: an array's count, a string's count byte, a list's failing value. It counts in the bytes that were lent, of an object's
  * name in that name, and is exact in arrays below 2^55 bytes. Every other refusal has the place 0.
@@ -40,7 +40,9 @@ enum ptp_refusal {
     PTP_TABLE = 11,  /* the object table breaks its rule */
     PTP_PLACE = 12,  /* an index that does not exist */
     PTP_RECORD = 13, /* a record's length is below 6, or its kind not 1 to 3 */
-    PTP_LONG = 14    /* a record's body is over 8,192 bytes */
+    PTP_LONG = 14,   /* a record's body is over 8,192 bytes */
+    PTP_TYPE = 15,   /* another type than the description's, one that is none, or a range of anything but integers of 8 to 64 bits */
+    PTP_VALUE = 16   /* the description's form does not allow the value */
 };
 
 /* Of an answer below 0: which refusal it is, one of the numbers above. */
@@ -206,6 +208,13 @@ int64_t ptp_tidy_property(const uint8_t *s, size_t s_len, uint8_t *out, size_t o
  * *number: COUNT, ROOM. */
 int64_t ptp_command(uint32_t *number, uint16_t code, const uint32_t *params, size_t params_len, const uint8_t *data, size_t data_len,
                     bool with_data, uint8_t *out, size_t out_len);
+
+/* SetDevicePropValue of a value that the description allows: the Command with the property's code, and right behind it the Data container
+ * with the value's tidy spelling. The description begins its bytes; the value is of this type, and fills its bytes. Answers how many bytes,
+ * and counts *number on as ptp_command does. Refusals, which leave *number: END and TEXT of the description; TYPE; END, TEXT and TRAIL of
+ * the value; VALUE; COUNT, ROOM. */
+int64_t ptp_set_value(uint32_t *number, const uint8_t *description, size_t description_len, uint16_t code, const uint8_t *value,
+                      size_t value_len, uint8_t *out, size_t out_len);
 
 /* The Response that brings a payload. */
 enum { PTP_RESPONSE_OK = 0x2001 };

@@ -252,6 +252,21 @@ static void newer(const uint8_t *s, size_t len, const uint8_t *payload, size_t p
 }
 
 /* The number sent is that of the bytes; a refusal that does not leave the session's state is told as no refusal is. */
+static void print_made(int64_t answer, uint32_t state, uint32_t number, const uint8_t *out, size_t room)
+{
+    if (answer < 0) {
+        print_refusal(number == state ? "no" : "moved", answer, 0);
+    } else {
+        printf("ok");
+        print_number(word_at(out + 8, 4));
+        print_number(number);
+        print_number((uint64_t)answer);
+    }
+    printf(room ? " " : " -");
+    for (size_t i = 0; i < room; i++)
+        printf("%02x", out[i]);
+}
+
 static void command(uint32_t state, const char *code, const char *params_word, const char *data_word, const char *room_word)
 {
     static uint32_t params[MOST_PARAMS];
@@ -261,17 +276,19 @@ static void command(uint32_t state, const char *code, const char *params_word, c
     uint32_t number = state;
     memset(second, 0xA5, room);
     int64_t answer = ptp_command(&number, (uint16_t)number_of(code), params, params_len, first, len, data_word != NULL, second, room);
-    if (answer < 0) {
-        print_refusal(number == state ? "no" : "moved", answer, 0);
-    } else {
-        printf("ok");
-        print_number(word_at(second + 8, 4));
-        print_number(number);
-        print_number((uint64_t)answer);
-    }
-    printf(room ? " " : " -");
-    for (size_t i = 0; i < room; i++)
-        printf("%02x", second[i]);
+    print_made(answer, state, number, second, room);
+}
+
+static void set_value(uint32_t state, const char *description, const char *code, const char *value, const char *room_word)
+{
+    static uint8_t chosen[LONGEST];
+    size_t len = read_bytes(description, first);
+    size_t chosen_len = read_bytes(value, chosen);
+    size_t room = number_of(room_word);
+    uint32_t number = state;
+    memset(second, 0xA5, room);
+    int64_t answer = ptp_set_value(&number, first, len, (uint16_t)number_of(code), chosen, chosen_len, second, room);
+    print_made(answer, state, number, second, room);
 }
 
 static void answer(const uint8_t *s, size_t len, uint32_t number)
@@ -347,6 +364,8 @@ static void ask(char *const *word)
         command(number_of(word[1]), word[2], word[3], NULL, word[4]);
     else if (strcmp(kind, "command-data") == 0)
         command(number_of(word[1]), word[2], word[3], word[4], word[5]);
+    else if (strcmp(kind, "panel") == 0)
+        set_value(number_of(word[1]), word[2], word[3], word[4], word[5]);
     else if (strcmp(kind, "answer") == 0)
         answer(second, read_bytes(word[2], second), number_of(word[1]));
     else if (strcmp(kind, "record") == 0)

@@ -10,7 +10,7 @@
 #include <stdlib.h>
 #include <string.h>
 
-enum { SET_DEVICE_PROP_VALUE = 0x1016, ROOM = 64 };
+enum { ROOM = 64 };
 
 /* An exposure time, 0x500D, a UINT32 in units of 0.1 ms: 1/125 s now, out of a list of six. */
 static const char DESCRIPTION[] = "0d5006000101"
@@ -67,10 +67,9 @@ static int set_next(const uint8_t *s, size_t len)
         return 1;
     }
     uint32_t number = 1; /* OpenSession took 0 */
-    uint32_t property = (uint32_t)prop[PTP_PROP_PROPERTY_CODE];
     uint8_t out[ROOM];
-    answer = ptp_command(&number, SET_DEVICE_PROP_VALUE, &property, 1, s + next[PTP_LIST_VALUE_START], next[PTP_LIST_VALUE_LENGTH], true,
-                         out, ROOM);
+    answer = ptp_set_value(&number, s, len, (uint16_t)prop[PTP_PROP_DATA_TYPE], s + next[PTP_LIST_VALUE_START], next[PTP_LIST_VALUE_LENGTH],
+                           out, ROOM);
     if (answer < 0)
         return refused(answer);
     for (int64_t i = 0; i < answer; i++)

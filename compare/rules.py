@@ -20,6 +20,7 @@ ADDED = {
     "record": "D2", "write-record": "D2", "listing": "D2",
     "nth": "D3", "list": "D3", "step": "D3", "newer": "D3",
     "write-string": "D4",
+    "panel": "D29",
     MALFORMED: "D15",
 }
 

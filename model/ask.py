@@ -7,7 +7,7 @@ import binascii
 import re
 import sys
 
-from model import containers, datasets, listing, names, recording, session, tree, values
+from model import containers, datasets, listing, names, panel, recording, session, tree, values
 from model.refusals import ROOM, Refused, refuse_if
 
 LONGEST_LINE = 1_200_000
@@ -289,6 +289,10 @@ def command_data(state, code, parameters, payload, size):
     return making(size, session.command_with_data, state, code, parameters, payload)
 
 
+def set_value(state, description, code, chosen, size):
+    return making(size, panel.set_value, state, description, code, chosen)
+
+
 def call(called, state, storage, wanted, handle, size):
     if called not in session.CALLS:
         raise Malformed
@@ -374,6 +378,7 @@ QUESTIONS = {
     "write-container": ((u16, u16, u32, hex_bytes, room), write_container),
     "command": ((u32, u16, u32s, room), command),
     "command-data": ((u32, u16, u32s, hex_bytes, room), command_data),
+    "panel": ((u32, hex_bytes, u16, hex_bytes, room), set_value),
     "call": ((word_of, u32, u32, u32, u32, room), call),
     "answer": ((u32, hex_bytes), find_answer),
     "handles": ((hex_bytes,), handles),

@@ -16,6 +16,8 @@ mod archive {
         pub fn ptp_tidy_property(s: *const u8, len: usize, out: *mut u8, room: usize) -> u64;
         pub fn ptp_command(number: *mut u32, code: u16, params: *const u32, count: usize, data: *const u8, len: usize,
                        with_data: bool, out: *mut u8, room: usize) -> u64;
+        pub fn ptp_set_value(number: *mut u32, description: *const u8, description_len: usize, code: u16, value: *const u8,
+                         value_len: usize, out: *mut u8, room: usize) -> u64;
         pub fn ptp_find_answer(s: *const u8, len: usize, number: u32, out: *mut u64, room: usize) -> u64;
         pub fn ptp_paths(handles: *const u32, handle_count: usize, parents: *const u16, parent_count: usize,
                      ends: *const u32, end_count: usize, names: *const u8, len: usize, out: *mut u8, room: usize,
@@ -45,6 +47,14 @@ mod archive {
         let mut number = number;
         unsafe {
             ptp_command(&mut number, code, params.as_ptr(), params.len(), out.as_ptr(), 0, false, out.as_mut_ptr(), out.len())
+        }
+    }
+
+    pub fn set_value(number: u32, description: &[u8], code: u16, value: &[u8], out: &mut [u8]) -> u64 {
+        let mut number = number;
+        unsafe {
+            ptp_set_value(&mut number, description.as_ptr(), description.len(), code, value.as_ptr(), value.len(),
+                          out.as_mut_ptr(), out.len())
         }
     }
 

@@ -73,11 +73,11 @@ mod clock {
     }
 
     pub fn row(name: &str, ours: &str, theirs: &str, ratio: &str) {
-        println!("| {:<44} | {:>9} | {:>10} | {:>7} |", name, ours, theirs, ratio);
+        println!("| {:<56} | {:>9} | {:>10} | {:>7} |", name, ours, theirs, ratio);
     }
 
     pub fn heading() {
         row("", "ours, ns", "theirs, ns", "ratio");
-        println!("|{:-<46}|{:->11}|{:->12}|{:->9}|", "", ":", ":", ":");
+        println!("|{:-<58}|{:->11}|{:->12}|{:->9}|", "", ":", ":", ":");
     }
 }

@@ -9,6 +9,7 @@ fn main() {
     let words: Vec<String> = std::env::args().skip(1).collect();
     clock::heading();
     records::records();
+    records::shutter();
     records::strings();
     containers::containers();
     trees::trees();

@@ -61,6 +61,26 @@ mod records {
         }
     }
 
+    /// Theirs reads the description, looks for the value in its list, and spells it; ours is the whole call, with the command.
+    pub fn shutter() {
+        let property = property_record();
+        let chosen = u32s(&[20 + 59 * 5]);
+        let mut out = [0u8; 64];
+        let count = accepted(set_value(NUMBER, &property, 6, &chosen, &mut out));
+        assert_eq!(&out[..count], &[container(1, 0x1016, &u32s(&[0x500d])), container(2, 0x1016, &chosen)].concat()[..]);
+        let theirs: fn(&[u8], &PtpDataType) -> Option<Vec<u8>> = black_box(|s, value| {
+            match PtpPropInfo::decode(&mut Cursor::new(s)).ok()?.Form {
+                PtpFormData::Enumeration { array } => array.iter().find(|member| *member == value).map(|member| member.encode()),
+                _ => None,
+            }
+        });
+        let value = PtpDataType::UINT32(20 + 59 * 5);
+        assert_eq!(theirs(&property, &value).expect("the last of the list"), chosen);
+        line("shutter value checked against a list of 60, command made", 1,
+             side(|| { black_box(set_value(NUMBER, black_box(&property), 6, black_box(&chosen), &mut out)); }),
+             Some(side(|| { black_box(theirs(black_box(&property), black_box(&value)).is_some()); })));
+    }
+
     pub fn strings() {
         for &(name, characters) in &[
             ("string of 254 units, ASCII", "The quick brown fox. "),

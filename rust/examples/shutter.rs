@@ -3,7 +3,7 @@
 //!     shutter [HEX]      HEX is a property's description; without it, one that stands here
 //!
 //! c/shutter.c is the same in C.
-use ptp_proved::{PtpFormData, PtpPropInfo, PtpValue, Session, StandardCommandCode};
+use ptp_proved::{PtpFormData, PtpPropInfo, PtpValue, Session};
 use std::process::ExitCode;
 
 // An exposure time, 0x500D, a UINT32 in units of 0.1 ms: 1/125 s now, out of a list of six.
@@ -39,9 +39,7 @@ fn set_next(s: &[u8]) -> Result<(), String> {
     let value = next_value(&info).ok_or("no value follows the current one")?;
     let mut session = Session::at(1); // OpenSession took 0
     let mut out = [0; 64];
-    let made = session
-        .command_with_data(StandardCommandCode::SetDevicePropValue, &[info.PropertyCode.into()], value.bytes(), &mut out)
-        .map_err(|why| format!("refusal {}", why.number()))?;
+    let made = session.set_value(s, info.DataType, value.bytes(), &mut out).map_err(|why| format!("refusal {}", why.number()))?;
     println!("{}", made.bytes.iter().map(|byte| format!("{byte:02x}")).collect::<String>());
     Ok(())
 }

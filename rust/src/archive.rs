@@ -41,6 +41,16 @@ extern "C" {
         out: *mut u8,
         out_len: usize,
     ) -> i64;
+    fn ptp_set_value(
+        number: *mut u32,
+        description: *const u8,
+        description_len: usize,
+        code: u16,
+        value: *const u8,
+        value_len: usize,
+        out: *mut u8,
+        out_len: usize,
+    ) -> i64;
     fn ptp_find_answer(s: *const u8, s_len: usize, number: u32, out: *mut u64, out_len: usize) -> i64;
     fn ptp_walk(
         handles: *const u32,
@@ -76,7 +86,7 @@ fn told(answer: i64) -> Result<usize, Refusal> {
         return Ok(answer as usize);
     }
     let refusal = answer.unsigned_abs();
-    Err(Refusal::from_number(refusal % 256, (refusal / 256) as usize).expect("the archive refuses by 1 to 14"))
+    Err(Refusal::from_number(refusal % 256, (refusal / 256) as usize).expect("the archive refuses by 1 to 16"))
 }
 
 // `f` is one of the archive's.
@@ -139,6 +149,21 @@ pub(crate) fn command(number: &mut u32, code: u16, params: &[u32], data: Option<
             bytes.as_ptr(),
             bytes.len(),
             data.is_some(),
+            out.as_mut_ptr(),
+            out.len(),
+        )
+    })
+}
+
+pub(crate) fn set_value(number: &mut u32, description: &[u8], code: u16, value: &[u8], out: &mut [u8]) -> Result<usize, Refusal> {
+    told(unsafe {
+        ptp_set_value(
+            number,
+            description.as_ptr(),
+            description.len(),
+            code,
+            value.as_ptr(),
+            value.len(),
             out.as_mut_ptr(),
             out.len(),
         )

@@ -1,7 +1,7 @@
 //! Why a call gave nothing.
 use core::fmt;
 
-/// The fourteen refusals. Where several conditions hold, a call gives the first in its own order.
+/// The sixteen refusals. Where several conditions hold, a call gives the first in its own order.
 ///
 /// What could not be read is told with `at`, the place of the first byte of the field that failed: an array's count, a string's count byte,
 /// a list's failing value. It counts in the bytes that were lent; of an object's name in that name.
@@ -35,15 +35,20 @@ pub enum Refusal {
     RECORD,
     /// a record's body is over 8,192 bytes
     LONG,
+    /// another type than the description's, one that is none, or a range of anything but integers of 8 to 64 bits
+    TYPE,
+    /// the description's form does not allow the value
+    VALUE,
 }
 
 use Refusal::*;
 
 // Those without a place, from 3 on.
-const PLAIN: [Refusal; 12] = [TRAIL, KIND, LENGTH, SIZE, TID, NOPHASE, ROOM, COUNT, TABLE, PLACE, RECORD, LONG];
+const PLAIN: [Refusal; 14] =
+    [TRAIL, KIND, LENGTH, SIZE, TID, NOPHASE, ROOM, COUNT, TABLE, PLACE, RECORD, LONG, TYPE, VALUE];
 
 impl Refusal {
-    /// Its number, 1 to 14.
+    /// Its number, 1 to 16.
     pub fn number(self) -> u8 {
         match self {
             END { .. } => 1,

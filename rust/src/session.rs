@@ -33,6 +33,13 @@ pub struct Made<'o> {
     pub bytes: &'o [u8],
 }
 
+impl<'o> Made<'o> {
+    // A command's bytes tell its number.
+    fn of(bytes: &'o [u8]) -> Made<'o> {
+        Made { number: u32::from_le_bytes([bytes[8], bytes[9], bytes[10], bytes[11]]), bytes }
+    }
+}
+
 /// Counts a session's transaction numbers. Its state is one number: 0 where it is closed, as a fresh one is, else the next command's.
 ///
 /// OpenSession is sent with 0, and 1 comes next, also where the session is open. A closed session sends any other command with 0, and stays
@@ -75,10 +82,17 @@ impl Session {
         self.make(code, params, Some(data), out)
     }
 
+    /// SetDevicePropValue of a value that a property's description allows, with the value's tidy spelling as its data. `code` is the value's
+    /// type; the description begins its bytes. Refusals: END and TEXT of the description; TYPE; END, TEXT and TRAIL of the value, which must fill
+    /// its bytes; VALUE where the description's form does not allow it; COUNT, ROOM.
+    pub fn set_value<'o>(&mut self, description: &[u8], code: u16, value: &[u8], out: &'o mut [u8]) -> Result<Made<'o>, Refusal> {
+        let count = archive::set_value(&mut self.number, description, code, value, out)?;
+        Ok(Made::of(&out[..count]))
+    }
+
     fn make<'o>(&mut self, code: u16, params: &[u32], data: Option<&[u8]>, out: &'o mut [u8]) -> Result<Made<'o>, Refusal> {
         let count = archive::command(&mut self.number, code, params, data, out)?;
-        let bytes = &out[..count];
-        Ok(Made { number: u32::from_le_bytes([bytes[8], bytes[9], bytes[10], bytes[11]]), bytes })
+        Ok(Made::of(&out[..count]))
     }
 }
 

@@ -82,6 +82,25 @@ fn refused_command_uses_no_number() {
 }
 
 #[test]
+fn only_an_allowed_value_is_set() {
+    for (code, value, room, why) in [
+        (3, &[5][..], 64, Refusal::TYPE),
+        (2, &[], 64, Refusal::END { at: 0 }),
+        (2, &[5, 0], 64, Refusal::TRAIL),
+        (2, &[101], 64, Refusal::VALUE),
+        (2, &[5], 28, Refusal::ROOM),
+    ] {
+        let (mut session, mut out) = (Session::at(7), [KEPT; 64]);
+        assert_eq!(session.set_value(&RANGE, code, value, &mut out[..room]), Err(why));
+        assert_eq!((session.number(), out), (7, [KEPT; 64]));
+    }
+    let (mut session, mut out) = (Session::at(7), [KEPT; 32]);
+    let made = session.set_value(&RANGE, 2, &[5], &mut out).unwrap();
+    assert_eq!((made.number, made.bytes.len(), made.bytes[28]), (7, 29, 5));
+    assert_eq!((session.number(), &out[29..]), (8, &[KEPT; 3][..]));
+}
+
+#[test]
 fn walk_needs_its_exact_room() {
     for room in 0..4 {
         let mut places = [9; 6];

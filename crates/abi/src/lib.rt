@@ -3,7 +3,7 @@
 mod answer;
 mod dataset;
 mod object_table;
-mod panel;
+mod property;
 mod record;
 mod transaction;
 

@@ -1,11 +1,13 @@
 // A command made, and its answer found.
+ghost use mathlib.Core.Path.{_≡_};
 ghost use Rattle.layout.specs.Written.{Wrote, saysWritten};
 ghost use Rattle.session.specs.Calls.{commandOf};
 ghost use Rattle.session.specs.Search.{answerIn};
 ghost use Rattle.session.specs.Transaction.{Makes, saysMade};
-ghost use Rattle.abi.specs.Answered.{Tells, Gives, given};
+ghost use Rattle.panel.specs.Panel.{panelSaid};
+ghost use Rattle.abi.specs.Answered.{word, Tells, Gives, given};
 ghost use Rattle.abi.specs.Rows.{replyRow};
-ghost use Rattle.abi.specs.Sent.{commandDue, sessionAt, Sent};
+ghost use Rattle.abi.specs.Sent.{commandDue, sessionAt, numberAfter, Sent};
 use crate::answer;
 use layout::Written;
 use session::Found;
@@ -29,6 +31,31 @@ fn made(
     session::command(session, session::command_of(code, params), out)
 }
 
+// The number of the session after a command, or as it was where it was refused; and the answer's word.
+struct Said {
+    number: u32,
+    word: u64,
+}
+
+fn spoken(number: u32, m: Made) -> Said
+    ensures { λ r. ⌜ (r .number ≡ numberAfter number (saysMade m)) × (r .word ≡ word (saysMade m)) ⌝ }
+{
+    match m {
+        Made::Done {
+            number: _,
+            next,
+            count,
+        } => Said {
+            number: next.number,
+            word: answer::told(Written::Done(count)),
+        },
+        Made::Refused(f) => Said {
+            number,
+            word: answer::told(Written::Refused(f)),
+        },
+    }
+}
+
 // The command, with its data behind it where it has any; `number` is the session's, 0 where it is closed, and that of the session after it on success.
 #[no_mangle]
 pub extern "C" fn ptp_command(
@@ -41,17 +68,32 @@ pub extern "C" fn ptp_command(
 ) -> u64
     ensures { λ r. ⌜ Tells (Sent (now (number .entry)) code (commandDue «with_data» (commandOf code (now (params .entry))) (now (payload .entry))) (now (out .entry)) (now (number .exit)) (now (out .exit))) r ⌝ }
 {
-    match made(*number, code, params, payload, with_data, out) {
-        Made::Done {
-            number: _,
-            next,
-            count,
-        } => {
-            *number = next.number;
-            answer::told(Written::Done(count))
-        }
-        Made::Refused(f) => answer::told(Written::Refused(f)),
-    }
+    let s = spoken(
+        *number,
+        made(*number, code, params, payload, with_data, out),
+    );
+    *number = s.number;
+    s.word
+}
+
+// SetDevicePropValue of a value that the description allows, with its data behind it; `number` as `ptp_command` has it.
+#[no_mangle]
+pub extern "C" fn ptp_set_value(
+    number: &mut u32,
+    description: &[u8],
+    code: u16,
+    value: &[u8],
+    out: &mut [u8],
+) -> u64
+    ensures { λ r. ⌜ Tells (Sent (now (number .entry)) 0x1016 (panelSaid (now (description .entry)) code (now (value .entry))) (now (out .entry)) (now (number .exit)) (now (out .exit))) r ⌝ }
+{
+    let session = Session { number: *number };
+    let s = spoken(
+        *number,
+        panel::set_value(session, description, code, value, out),
+    );
+    *number = s.number;
+    s.word
 }
 
 fn give_answer(s: &[u8], number: u32, out: &mut [u64]) -> Written

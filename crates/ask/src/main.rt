@@ -47,6 +47,7 @@ fn numbers_room() -> [u32; 8192] {
 fn write(
     arm: u8,
     a: Args,
+    line: &[u8],
     src: &[u8],
     halves: &[u16],
     numbers: &[u32],
@@ -55,7 +56,7 @@ fn write(
 ) -> usize {
     let mut out = out_room();
     let page = print::page(&mut out, a.room);
-    let t = writes::of(arm, a, src, halves, numbers, page);
+    let t = writes::of(arm, a, line, src, halves, numbers, page);
     let o = show::tell(text, at, src, t);
     if !t.ok {
         return o;
@@ -77,7 +78,7 @@ fn reply(
         return show::tell(text, at, src, reads::of(q.arm, a, src));
     }
     if q.group == question::WRITES {
-        return write(q.arm, a, src, halves, numbers, text, at);
+        return write(q.arm, a, line, src, halves, numbers, text, at);
     }
     long::of(q.arm, a, line, src, halves, numbers, text, at)
 }

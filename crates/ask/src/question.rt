@@ -10,7 +10,7 @@ pub const READS: u8 = b'r';
 
 pub const WRITES: u8 = b'w';
 
-const TABLE: [u8; 649] = *b"\
+const TABLE: [u8; 664] = *b"\
     response-name rR 2;\
     command-name rC 2;\
     value rv 28b;\
@@ -39,6 +39,7 @@ const TABLE: [u8; 649] = *b"\
     write-container wc 224br;\
     command wm 42nr;\
     command-data wd 42nbr;\
+    panel wn 4b2br;\
     call wC w4444r;\
     answer ra 4b;\
     handles rH b;\

@@ -124,6 +124,17 @@ fn call(a: Args, w: &[u8], page: &mut [u8]) -> Told {
     made(session::command(state(a.numbers[1]), c, page))
 }
 
+// Of the two words that are bytes the description comes first.
+fn set_value(a: Args, line: &[u8], src: &[u8], page: &mut [u8]) -> Told {
+    made(panel::set_value(
+        state(a.numbers[0]),
+        slice::counted(line, a.numbers[1], a.counts[1]),
+        low16(a.numbers[2]),
+        src,
+        page,
+    ))
+}
+
 // The writers that take bytes, and of the words at most three numbers.
 fn of_bytes(arm: u8, a: Args, src: &[u8], page: &mut [u8]) -> Told {
     let n = low16(a.numbers[0]);
@@ -148,8 +159,17 @@ fn of_bytes(arm: u8, a: Args, src: &[u8], page: &mut [u8]) -> Told {
 }
 
 // By the letter of the question's arm.
-pub fn of(arm: u8, a: Args, src: &[u8], halves: &[u16], numbers: &[u32], page: &mut [u8]) -> Told {
+pub fn of(
+    arm: u8,
+    a: Args,
+    line: &[u8],
+    src: &[u8],
+    halves: &[u16],
+    numbers: &[u32],
+    page: &mut [u8],
+) -> Told {
     match arm {
+        b'n' => set_value(a, line, src, page),
         b'v' => write_value(a, src, page),
         b'C' => call(a, src, page),
         b's' => told::written(wire::write_text(slice::part16(halves, a.counts[0]), page)),

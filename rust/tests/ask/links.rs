@@ -36,6 +36,17 @@ pub fn command(state: &str, code: &str, params: &str, data: Option<&str>, room: 
     Some(made(state, session, answer, &out))
 }
 
+pub fn set_value(state: &str, description: &str, code: &str, value: &str, room: &str) -> Option<String> {
+    let state = words::half(state)?;
+    let description = words::bytes(description)?;
+    let code = words::short(code)?;
+    let value = words::bytes(value)?;
+    let mut out = words::room(room)?;
+    let mut session = Session::at(state);
+    let answer = session.set_value(&description, code, &value, &mut out).map(told);
+    Some(made(state, session, answer, &out))
+}
+
 pub fn call(name: &str, state: &str, ids: [&str; 3], room: &str) -> Option<String> {
     let state = words::half(state)?;
     let [storage, filter, handle] = ids.map(words::half);

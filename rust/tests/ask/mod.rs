@@ -5,7 +5,7 @@ mod show;
 mod words;
 
 /// Every kind that is compared.
-pub const KINDS: [&str; 17] = [
+pub const KINDS: [&str; 18] = [
     "device",
     "object",
     "storage",
@@ -16,6 +16,7 @@ pub const KINDS: [&str; 17] = [
     "newer",
     "command",
     "command-data",
+    "panel",
     "call",
     "answer",
     "walk",
@@ -38,6 +39,7 @@ pub fn answer(kind: &str, words: &[&str]) -> Option<String> {
         ("newer", [description, payload]) => datasets::newer(description, payload),
         ("command", [state, code, params, room]) => links::command(state, code, params, None, room),
         ("command-data", [state, code, params, s, room]) => links::command(state, code, params, Some(s), room),
+        ("panel", [state, description, code, value, room]) => links::set_value(state, description, code, value, room),
         ("call", [name, state, storage, filter, handle, room]) => links::call(name, state, [storage, filter, handle], room),
         ("answer", [number, s]) => links::answer(number, s),
         ("walk", [handles, parents, ends, names]) => links::walk([handles, parents, ends, names]),

@@ -1,4 +1,4 @@
-// What the panel asks of a property's description: a value of its list, the newer value, the tidy spelling.
+// What is asked of a property's description: a value of its list, the newer value, the tidy spelling.
 ghost use Rattle.layout.specs.Written.{Wrote, says, saysWritten, tidied};
 ghost use Rattle.wire.specs.Codecs.{property};
 ghost use Rattle.wire.specs.List.{nthAt};

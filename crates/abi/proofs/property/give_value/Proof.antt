@@ -1,12 +1,12 @@
--- `abi::panel::give_value`: the value's row, or its refusal. Assumes nothing.
+-- `abi::property::give_value`: the value's row, or its refusal. Assumes nothing.
 use borrow.Author.Needs.{needs}
 use mathlib.Core.Path.{refl}
 use Rattle.layout.proofs.laws.Reading.{heard}
 use Rattle.wire.specs.List.{saysNth}
 use Rattle.abi.specs.Rows.{slotRow}
 use Rattle.abi.proofs.laws.Answers.{row-given, row-refused}
-use Rattle.abi.proofs.panel.give_value.Statement.{statement}
-use Rattle.abi.proofs.panel.give_value.Tie as tie
+use Rattle.abi.proofs.property.give_value.Statement.{statement}
+use Rattle.abi.proofs.property.give_value.Tie as tie
 
 returns : tie.Need-returns
 returns c =

@@ -1,7 +1,7 @@
--- `abi::panel::give_newer`: the row of the part that is chosen. Assumes nothing.
+-- `abi::property::give_newer`: the row of the part that is chosen. Assumes nothing.
 use borrow.Author.Needs.{needs}
-use Rattle.abi.proofs.panel.give_newer.Statement.{statement}
-use Rattle.abi.proofs.panel.give_newer.Tie as tie
+use Rattle.abi.proofs.property.give_newer.Statement.{statement}
+use Rattle.abi.proofs.property.give_newer.Tie as tie
 
 returns : tie.Need-returns
 returns c = rw (← c .before .before .before .before .before .before .newer-place .ensures) (c .before .before .give .ensures)

@@ -1,0 +1,11 @@
+pub mod Values
+pub mod Types
+pub mod Members
+pub mod Spans
+pub mod Slots
+pub mod Weighing
+pub mod Sending
+pub mod Tested
+pub mod Extremes
+pub mod Broken
+pub mod Exact

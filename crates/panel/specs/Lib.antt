@@ -1,0 +1,5 @@
+pub mod Refusals
+pub mod Allowed
+pub mod Test
+pub mod Words
+pub mod Panel
