@@ -38,7 +38,7 @@ def bodies():
 
 
 def long_bodies():
-    """8,192 and 8,193 bytes: a container, a container with a byte after it, a note."""
+    """65,000 and 65,001 bytes: a container, a container with a byte after it, a note."""
     for length in (MOST - 1, MOST, MOST + 1):
         yield whole(2, 0x1009, 7, bytes(length - 12))
         yield whole(2, 0x1009, 7, bytes(length - 13)) + b"\x00"

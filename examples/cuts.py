@@ -73,12 +73,26 @@ def long_ones(rng):
         yield by_model(f"long, {name}, and a byte", data + b"\x00")
 
 
+def short_ones(size):
+    """Notes of so many bytes in all."""
+    return record(3, bytes(size % 6)) + record(3, b"") * (size // 6 - 1) if size else b""
+
+
+def longest(rng):
+    """The longest record alone and behind short ones, up to and over a window's edge; whole, cut by a byte, and followed by one."""
+    for front in [0, *range(6, 601, 4), 529, 531]:
+        data = short_ones(front) + record(3, rng.randbytes(MOST_BODY))
+        for name, changed in (("whole", data), ("cut by a byte", data[:-1]), ("and a byte", data + b"\x00")):
+            yield by_model(f"longest behind {front}, {name}", changed)
+
+
 def all_cases(seed):
     rng = random.Random(seed)
     yield from examples()
     yield from cuts()
     yield from damaged_ones(rng)
     yield from long_ones(rng)
+    yield from longest(rng)
 
 
 def main():

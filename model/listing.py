@@ -2,7 +2,7 @@
 
 from model.containers import COMMAND, DATA, RESPONSE, read_header
 from model.names import command_name, response_name
-from model.recording import NOTE, SENT, read_record
+from model.recording import MOST_BODY, NOTE, SENT, read_record
 from model.refusals import Refused
 
 HEADING = "place way kind code tid bytes\n"
@@ -28,12 +28,12 @@ def record_line(place, record, data):
             f"{header.number} {header.payload_length}\n")
 
 
-def listing(data):
+def listing(data, most=MOST_BODY):
     """A line a record; a refusal, its place from the record's start, stops the reading; the last line counts the whole records before."""
     lines, at, count = [HEADING], 0, 0
     while at < len(data):
         try:
-            record = read_record(data, at)
+            record = read_record(data, at, most)
         except Refused as refused:
             lines.append(f"{at} refusal {refused.seen_from(at)}\n")
             break

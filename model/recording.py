@@ -8,7 +8,7 @@ from model.values import read_number, take
 
 RECEIVED, SENT, NOTE = 1, 2, 3
 RECORD_HEADER = 6
-MOST_BODY = 8192
+MOST_BODY = 65_000
 
 Record = namedtuple("Record", "kind start length after")
 
@@ -25,13 +25,13 @@ def check_body(kind, body):
     refuse_if(start + header.payload_length < len(body), TRAIL)
 
 
-def read_record(data, at=0):
+def read_record(data, at=0, most=MOST_BODY):
     """1 for six bytes, 13, 14, 1 for the body, then the body's own refusals. Places count in the data."""
     length, kind_at = read_number(data, at, 4)
     kind, start = read_number(data, kind_at, 2)
     refuse_if(length < RECORD_HEADER, RECORD)
     check_kind(kind)
-    refuse_if(length - RECORD_HEADER > MOST_BODY, LONG)
+    refuse_if(length - RECORD_HEADER > most, LONG)
     body, after = take(data, start, length - RECORD_HEADER, start)
     try:
         check_body(kind, body)

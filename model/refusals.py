@@ -13,7 +13,7 @@ COUNT = 10     # too many units, parameters, items or payload bytes, or a part o
 TABLE = 11     # the object table breaks its rule
 PLACE = 12     # an index or array type code that does not exist
 RECORD = 13    # recording length below 6 or kind not 1 to 3
-LONG = 14      # a record's body over 8,192 bytes
+LONG = 14      # a record's body over 65,000 bytes
 TYPE = 15      # another type than the description's, UNDEF, or a range of anything but integers of 8 to 64 bits
 VALUE = 16     # the description's form does not allow the value
 

@@ -12,7 +12,6 @@ mod listing {
 
     const RECORDING: usize = 64_000_000;
     const LISTINGS: usize = 7;
-    const LONG_BODY: usize = 8192;
 
     fn record(kind: u16, body: &[u8]) -> Vec<u8> {
         [u32s(&[6 + body.len() as u32]), u16s(&[kind]), body.to_vec()].concat()
@@ -28,8 +27,8 @@ mod listing {
         ]
     }
 
-    fn long_records() -> Vec<Vec<u8>> {
-        vec![record(1, &container(2, StandardCommandCode::GetObject, &vec![0; LONG_BODY - 12]))]
+    fn long_records(body: usize) -> Vec<Vec<u8>> {
+        vec![record(1, &container(2, StandardCommandCode::GetObject, &vec![0; body - 12]))]
     }
 
     /// Writes these records again and again, and says how many there are.
@@ -66,6 +65,7 @@ mod listing {
 
     pub fn listing(program: &str, path: &str) {
         measured(program, path, &short_records(), "short records");
-        measured(program, path, &long_records(), "records with bodies of 8,192 bytes");
+        measured(program, path, &long_records(8192), "records with bodies of 8,192 bytes");
+        measured(program, path, &long_records(65_000), "records with bodies of 65,000 bytes");
     }
 }

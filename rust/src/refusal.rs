@@ -33,7 +33,7 @@ pub enum Refusal {
     PLACE,
     /// a record's length is below 6, or its kind not 1 to 3
     RECORD,
-    /// a record's body is over 8,192 bytes
+    /// a record's body is over 65,000 bytes
     LONG,
     /// another type than the description's, one that is none, or a range of anything but integers of 8 to 64 bits
     TYPE,

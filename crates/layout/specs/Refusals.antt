@@ -54,6 +54,6 @@ PLACE = 12
 abbrev pub RECORD : ℕ
 RECORD = 13
 
--- a record's body over 8,192 bytes
+-- a record's body over 65,000 bytes
 abbrev pub LONG : ℕ
 LONG = 14

@@ -36,6 +36,8 @@ fn show(out: &[u8], n: usize) -> bool
     stream::write_all(STDOUT_FILENO, &out[..n], b"list: writing standard output")
 }
 
+// The window has room for the longest record, 65,006 bytes, with 530 to spare: one that still waits in a full window would be taken for the
+// input's end.
 fn one_turn(s: Stand, window: &mut [u8; 65536], out: &mut [u8; 65536]) -> Going {
     let turn = listing::take_turn(s, window, out);
     if !show(out, turn.written) {

@@ -9,5 +9,6 @@ pub mod Held
 pub mod Fitting
 pub mod Whole
 pub mod Runs
+pub mod Older
 pub mod Unique
 pub mod Example

@@ -1,5 +1,6 @@
 pub mod Content
 pub mod Record
 pub mod Row
+pub mod Older
 pub mod Refused
 pub mod Returned

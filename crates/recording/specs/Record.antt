@@ -26,7 +26,7 @@ use Rattle.recording.specs.declared.ReadRecord.the-variants as readRecor
 
 -- the longest body
 abbrev pub limit : ℕ
-limit = 8192
+limit = 65000
 
 unfoldable pub isKind : ℕ → Bool
 isKind kind = pick (leb 1 kind) (leb kind 3) false

@@ -16,7 +16,7 @@ use wire::ReadU16;
 use wire::ReadU32;
 
 // The longest body.
-const LIMIT: usize = 8192;
+const LIMIT: usize = 65000;
 
 // What a body holds.
 pub enum Content {
