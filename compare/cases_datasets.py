@@ -4,6 +4,7 @@ import itertools
 
 from compare.bits import (EDGES_64, TYPES, Cases, damaged, hexed, maybe_damaged, room_for, row_bytes, some_bytes,
                           type_code, value_bytes)
+from compare.cases_values import edge_runs
 from model import datasets, values
 
 MOST_LISTED = 65_535
@@ -26,10 +27,19 @@ def zero_of(code):
     return values.Text() if code == values.STRING else []
 
 
+def smallest(types):
+    return b"".join(values.write_value(code, zero_of(code)) for code in types)
+
+
+def run_rows(types):
+    """The smallest, whose first string is a run of units, whole or broken."""
+    first = types.index(values.STRING)
+    return (smallest(types[:first]) + data + smallest(types[first + 1:]) for data in edge_runs())
+
+
 def short_rows(rng, types):
     """The smallest, cut at every byte; then good ones, cut at every byte, each byte replaced by key values."""
-    smallest = b"".join(values.write_value(code, zero_of(code)) for code in types)
-    yield from every_prefix(smallest + b"\xee")
+    yield from every_prefix(smallest(types) + b"\xee")
     for _ in range(12):
         good = row_bytes(rng, types)
         yield from every_prefix(good[:400])
@@ -40,11 +50,16 @@ def one_row(rng, types):
     return maybe_damaged(rng, row_bytes(rng, types)) + some_bytes(rng, 2)
 
 
-def row(question, types):
-    """A question that reads a row of fields."""
+def no_rows(types):
+    return ()
+
+
+def row(question, types, more=no_rows):
+    """A question that reads a row of fields; `more(types)` are rows that only it has."""
     def ask(data):
         return f"{question} {hexed(data)}"
-    return Cases(lambda rng: map(ask, short_rows(rng, types)), lambda rng: ask(one_row(rng, types)))
+    return Cases(lambda rng: map(ask, itertools.chain(short_rows(rng, types), more(types))),
+                 lambda rng: ask(one_row(rng, types)))
 
 
 def tidy_row(question, types):
@@ -178,8 +193,8 @@ def one_newer(rng):
 
 
 DATASET_CASES = {
-    "device": row("device", datasets.DEVICE),
-    "object": row("object", datasets.OBJECT),
+    "device": row("device", datasets.DEVICE, run_rows),
+    "object": row("object", datasets.OBJECT, run_rows),
     "storage": row("storage", datasets.STORAGE),
     "property": on_description(ask_property),
     "tidy-device": tidy_row("tidy-device", datasets.DEVICE),

@@ -3,6 +3,7 @@
 import itertools
 
 from compare.bits import EDGES_64, Cases, damaged, any_string, hexed, listed, room_for
+from compare.cases_values import edge_runs
 from model import tree
 from model.ask import MOST_ROOM
 
@@ -111,9 +112,18 @@ def one_table(rng):
     return random_table(rng) if rng.random() < 0.75 else broken_table(rng)
 
 
-def on_table(ask, first):
+def run_tables():
+    """A folder and an object, whose name is a run of units, whole or broken."""
+    return (table_of((0, 0), [name("A"), data]) for data in edge_runs())
+
+
+def short_and_run_tables():
+    return itertools.chain(short_tables(), run_tables())
+
+
+def on_table(ask, first, tables=short_tables):
     """A question about a table: `ask(rng, table)` makes its line; `first()` are lines that only it has."""
-    return Cases(lambda rng: itertools.chain(first(), (ask(rng, table) for table in short_tables())),
+    return Cases(lambda rng: itertools.chain(first(), (ask(rng, table) for table in tables())),
                  lambda rng: ask(rng, one_table(rng)))
 
 
@@ -138,7 +148,7 @@ def ask_paths(rng, table):
 
 
 TREE_CASES = {
-    "walk": on_table(ask_walk, lambda: [f"walk {words(longest_chain())}"]),
+    "walk": on_table(ask_walk, lambda: [f"walk {words(longest_chain())}"], short_and_run_tables),
     "path": on_table(ask_path, longest_paths),
     "paths": on_table(ask_paths, lambda: [f"paths {words(longest_chain())} {MOST_ROOM}"]),
 }

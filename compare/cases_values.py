@@ -8,6 +8,12 @@ from compare.bits import (ARRAY_TYPES, EDGES_64, OTHER_TYPES, TYPES, WRAPPING_CO
 from model import values
 
 KEY_UNITS = [0x0041, 0x0000, 0xD800, 0xDBFF, 0xDC00, 0xDFFF, 0xE000]
+# A reader may look through units in blocks of so many; strings around one block, two and the longest.
+BLOCK = 16
+RUN_LENGTHS = (0, 1, 15, 16, 17, 31, 32, 33, 253, 254)
+# What stands in a run of ASCII: a unit around the limits, a pair, a surrogate alone, two that are no pair.
+IN_RUNS = [(0x7F,), (0x80,), (0xD7FF,), (0xE000,), (0xFFFF,), (0xD83D, 0xDE00), (0xDBFF,), (0xDC00,),
+           (0xD800, 0xDBFF), (0xDC00, 0xDFFF), (0xDC00, 0xD800)]
 
 
 def names(question, first, count):
@@ -40,6 +46,25 @@ def edge_strings():
             yield from (whole, whole[:-1], whole[:-2], whole + b"\x00")
 
 
+def ascii_runs():
+    """Runs of ASCII alone; the last unit, which is not looked at, is 0 or half of a pair."""
+    for length, last in itertools.product(RUN_LENGTHS, (0, 0xD800, 0xDFFF)):
+        yield string_bytes([0x41] * length, last)
+
+
+def broken_runs(at_edges):
+    """Runs of ASCII with something in them at each place: the places where a block or the run begins or ends, or the others."""
+    for length, put in itertools.product(RUN_LENGTHS, IN_RUNS):
+        for place in range(length - len(put) + 1):
+            after = length - len(put) - place
+            if (place % BLOCK in (0, BLOCK - 1) or after == 0) == at_edges:
+                yield string_bytes([0x41] * place + [*put] + [0x41] * after, 0xDC00)
+
+
+def edge_runs():
+    return itertools.chain(ascii_runs(), broken_runs(True))
+
+
 def wrapping_arrays():
     """Counts that a product in 32 bits would take for small ones."""
     for code, count, after in itertools.product(ARRAY_TYPES, WRAPPING_COUNTS, (0, 1, 16, 40)):
@@ -54,12 +79,12 @@ def key_bytes():
 
 
 def short_values():
-    """Every type with no byte and with every one byte, wrong products, key strings, every 7th 16-bit value and 13th code."""
+    """Every type with no byte and with every one byte, wrong products, key strings, runs, every 7th 16-bit value and 13th code."""
     for code in [0, *TYPES, *OTHER_TYPES]:
         yield code, b""
         yield from ((code, bytes([byte])) for byte in range(256))
     yield from wrapping_arrays()
-    yield from ((values.STRING, data) for data in itertools.chain(edge_strings(), key_strings()))
+    yield from ((values.STRING, data) for data in itertools.chain(edge_strings(), key_strings(), edge_runs(), broken_runs(False)))
     yield from key_bytes()
     yield from ((code, data.to_bytes(2, "little")) for code in (3, 4) for data in range(0, 0x10000, 7))
     yield from ((code, b"\x01\x00\x00\x00\x05") for code in range(0, 0x10000, 13))
@@ -142,6 +167,8 @@ def short_utf8(rng):
         yield f"utf8 0 {hexed(data)} {room_for(rng, lambda: utf8_of(data, 0))}"
     for unit in range(0, 0x10000, 11):
         yield f"utf8 0 {hexed(string_bytes([unit]))} 4"
+    for data in edge_runs():
+        yield f"utf8 0 {hexed(data)} {room_for(rng, lambda: utf8_of(data, 0))}"
 
 
 def one_utf8(rng):

@@ -12,14 +12,17 @@ import os
 import sys
 import tempfile
 
-from compare import cases, differences, peers, rules, run
-from model import ask, names, test_examples, test_orders, test_page
+from compare import cases, cases_datasets, cases_tree, cases_values, differences, peers, rules, run
+from model import ask, datasets, names, test_examples, test_orders, test_page, values
 
 EXAMPLES = differences.ROOT / "examples"
 SEED = "replay"
 SHORT_CASES = 35
 RANDOM_CASES = 35
 MALFORMED_LINES = 250
+# Of the runs of units, by each question that is asked about them: short lines, and lines of any length.
+SHORT_RUNS = 14
+RUNS = 3
 # A sampled question and its answer are no longer than this together.
 LONGEST_SAMPLED = 700
 # So many of a question's cases are looked through for the sample.
@@ -69,6 +72,21 @@ def sampled(name):
     yield from itertools.islice((line for line in more if is_short(line)), RANDOM_CASES)
 
 
+def runs_by_question():
+    """The runs of units, whole and broken, as each question that reads strings is asked about them."""
+    yield [f"value {values.STRING} 0 {data.hex()}" for data in cases_values.edge_runs()]
+    yield [f"utf8 0 {data.hex()} {2 * len(data)}" for data in cases_values.edge_runs()]
+    yield [f"device {data.hex()}" for data in cases_datasets.run_rows(datasets.DEVICE)]
+    yield [f"object {data.hex()}" for data in cases_datasets.run_rows(datasets.OBJECT)]
+    yield [f"walk {cases_tree.words(table)}" for table in cases_tree.run_tables()]
+
+
+def runs():
+    for lines in runs_by_question():
+        yield from spread([line for line in lines if is_short(line)], SHORT_RUNS)
+        yield from spread(lines, RUNS)
+
+
 def no_questions():
     lines = itertools.islice(cases.cases_of(rules.MALFORMED, SEED), LOOKED_THROUGH)
     return spread([line for line in lines if is_plain(line) and is_short(line)], MALFORMED_LINES)
@@ -81,7 +99,7 @@ def group_of(line):
 
 def all_lines():
     """Every line of the replay once, question by question."""
-    lines = dict.fromkeys(itertools.chain(written_down(), every_name()))
+    lines = dict.fromkeys(itertools.chain(written_down(), every_name(), runs()))
     for name in ask.QUESTIONS:
         lines.update(dict.fromkeys(sampled(name)))
     lines.update(dict.fromkeys(no_questions()))

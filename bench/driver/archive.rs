@@ -22,6 +22,7 @@ mod archive {
         pub fn ptp_paths(handles: *const u32, handle_count: usize, parents: *const u16, parent_count: usize,
                      ends: *const u32, end_count: usize, names: *const u8, len: usize, out: *mut u8, room: usize,
                      out_ends: *mut u32, out_count: usize) -> u64;
+        pub fn bench_text(s: *const u8, len: usize, out: *mut u64, room: usize) -> u64;
         pub fn bench_utf8(s: *const u8, len: usize, out: *mut u8, room: usize) -> u64;
         pub fn bench_header(s: *const u8, len: usize, out: *mut u64, room: usize) -> u64;
         pub fn bench_tidy_device(s: *const u8, len: usize, out: *mut u8, room: usize) -> u64;

@@ -11,6 +11,8 @@ fn main() {
     records::records();
     records::shutter();
     records::strings();
+    texts::texts();
+    texts::night();
     containers::containers();
     trees::trees();
     names::names();

@@ -1,8 +1,8 @@
 -- Units that are small. Below the surrogates they pair; below 0x80 each is its low byte, and their UTF-8 is themselves.
 -- Assumes nothing.
 use mathlib.Core.Path.{_≡_, refl, ap, _∙_}
-use mathlib.Core.Bool.{true}
-use mathlib.Core.List.{List, [], _∷_}
+use mathlib.Core.Bool.{false}
+use mathlib.Core.List.{List, [], _∷_, _++_}
 use Prim.Native.Nat.{ℕ, suc, _+_, _-_, _*_, _/_, _≤_, _<_}
 use native.Mathlib.Numerals.{add-one}
 use native.Mathlib.Omega.{arith}
@@ -10,10 +10,10 @@ use borrow.Author.Tests.{ne-eqb, lt-ltb}
 use lib.ListN.{length, take, drop, getD}
 use Rattle.layout.specs.Bytes.{number, cells}
 use Rattle.layout.proofs.laws.Reading.{number-front}
-use Rattle.wire.specs.Layout.{pairs}
+use Rattle.wire.specs.Layout.{high, pairs}
 use Rattle.wire.specs.Utf8.{points, encoded, encodedAll, utf8, NoneAbove}
 use Rattle.wire.proofs.Spelled.{length-cells}
-use Rattle.wire.proofs.Texts.{cells-cons, cells-none}
+use Rattle.wire.proofs.Texts.{cells-cons, cells-none, pairs-after}
 
 -- ── one by one ──
 
@@ -47,11 +47,12 @@ above-more (u ∷ us) h a = (omega arith, above-more us h (a .1))
 
 -- ── they pair ──
 
-pub small-pairs : (p m : ℕ) (us : List ℕ) → p < 0xD800 → m < 0xD800 → NoneAbove m us → true ≡ pairs p us
+-- a block of them is passed over where no low surrogate is awaited
+pub small-before : (p m : ℕ) (block us : List ℕ) → high p ≡ false → m < 0xD800 → NoneAbove m block → pairs 0 us ≡ pairs p (block ++ us)
 unfolding pairs
-small-pairs p m [] hp h a = rw (ne-eqb (p / 1024) 54 (λ e. omega arith))
-small-pairs p m (u ∷ us) hp h a =
-    rw (ne-eqb (p / 1024) 54 (λ e. omega arith), ne-eqb (u / 1024) 55 (λ e. omega arith)) (small-pairs u m us (omega arith) h (a .1))
+small-before p m [] us hp h a = pairs-after 0 p us refl hp
+small-before p m (u ∷ block) us hp h a =
+    rw (hp, ne-eqb (u / 1024) 55 (λ e. omega arith)) (small-before u m block us (ne-eqb (u / 1024) 54 (λ e. omega arith)) h (a .1))
 
 -- ── below 0x80 they are their own UTF-8 ──
 
