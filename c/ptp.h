@@ -14,6 +14,9 @@
  * In an answer's numbers a string is the START of its units and their COUNT, an array the START of its items and their COUNT: units and
  * items are of two bytes, low byte first, and so lie in the bytes START to START + 2 * COUNT. A value or a payload is a START and a
  * LENGTH in bytes. Each start is a place in the bytes that were read. TAKEN is how many of these were read.
+ *
+ * A property's description has one of two layouts, which the caller names by `book`: true for PIMA 15740's, which has no IsEnable byte,
+ * false for the one with that byte behind GetSet. There is no default, and nothing guesses: some bytes fit both.
  */
 #ifndef PTP_H
 #define PTP_H
@@ -168,7 +171,9 @@ enum ptp_prop_number {
     PTP_PROP_LIST_COUNT = PTP_PROP_MAX_START
 };
 
-int64_t ptp_prop_info(const uint8_t *s, size_t s_len, uint64_t *out, size_t out_len);
+enum { PTP_ENABLE_ABSENT = 256 }; /* PTP_PROP_IS_ENABLE in the book's layout; no byte is 256 */
+
+int64_t ptp_prop_info(bool book, const uint8_t *s, size_t s_len, uint64_t *out, size_t out_len);
 
 /* ---- what a panel asks of a property's description ---- */
 
@@ -181,7 +186,7 @@ enum ptp_list_value_number {
 
 /* Value n, from 0, of the list of the description that begins the bytes. Refusals: those of ptp_prop_info's reading, END and TEXT; PLACE
  * where there is no such value or no list; ROOM. */
-int64_t ptp_list_value(const uint8_t *s, size_t s_len, size_t n, uint64_t *out, size_t out_len);
+int64_t ptp_list_value(bool book, const uint8_t *s, size_t s_len, size_t n, uint64_t *out, size_t out_len);
 
 enum ptp_newer_number {
     PTP_NEWER_OF_PAYLOAD, /* 1: a part of the payload; 0: a part of the description */
@@ -192,11 +197,11 @@ enum ptp_newer_number {
 
 /* The whole payload where it is exactly one value of the description's type, else the description's current value; an empty part of the
  * description where that would be refused. Refusal: ROOM. */
-int64_t ptp_newer_value(const uint8_t *description, size_t description_len, const uint8_t *payload, size_t payload_len, uint64_t *out,
-                        size_t out_len);
+int64_t ptp_newer_value(bool book, const uint8_t *description, size_t description_len, const uint8_t *payload, size_t payload_len,
+                        uint64_t *out, size_t out_len);
 
 /* The tidy spelling of the description that begins the bytes: answers how many bytes. Refusals: those of reading it, END and TEXT; ROOM. */
-int64_t ptp_tidy_property(const uint8_t *s, size_t s_len, uint8_t *out, size_t out_len);
+int64_t ptp_tidy_property(bool book, const uint8_t *s, size_t s_len, uint8_t *out, size_t out_len);
 
 /* ---- transactions ---- */
 
@@ -213,8 +218,8 @@ int64_t ptp_command(uint32_t *number, uint16_t code, const uint32_t *params, siz
  * with the value's tidy spelling. The description begins its bytes; the value is of this type, and fills its bytes. Answers how many bytes,
  * and counts *number on as ptp_command does. Refusals, which leave *number: END and TEXT of the description; TYPE; END, TEXT and TRAIL of
  * the value; VALUE; COUNT, ROOM. */
-int64_t ptp_set_value(uint32_t *number, const uint8_t *description, size_t description_len, uint16_t code, const uint8_t *value,
-                      size_t value_len, uint8_t *out, size_t out_len);
+int64_t ptp_set_value(bool book, uint32_t *number, const uint8_t *description, size_t description_len, uint16_t code,
+                      const uint8_t *value, size_t value_len, uint8_t *out, size_t out_len);
 
 /* The Response that brings a payload. */
 enum { PTP_RESPONSE_OK = 0x2001 };

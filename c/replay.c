@@ -198,12 +198,12 @@ static void storage(const uint8_t *s, size_t len)
 }
 
 /* The values of a list must lie end to end in the bytes of the whole list. */
-static void print_list(const uint8_t *s, size_t len, const uint64_t *x)
+static void print_list(bool book, const uint8_t *s, size_t len, const uint64_t *x)
 {
     uint64_t value[PTP_LIST_VALUE_NUMBERS], place = x[PTP_PROP_LIST_START];
     printf(" list %" PRIu64, x[PTP_PROP_LIST_COUNT]);
     for (uint64_t n = 0; n < x[PTP_PROP_LIST_COUNT]; n++) {
-        if (!gave(ptp_list_value(s, len, n, value, PTP_LIST_VALUE_NUMBERS), 3) || value[PTP_LIST_VALUE_START] != place)
+        if (!gave(ptp_list_value(book, s, len, n, value, PTP_LIST_VALUE_NUMBERS), 3) || value[PTP_LIST_VALUE_START] != place)
             printf(" ?");
         print_value(s, value[PTP_LIST_VALUE_START], value[PTP_LIST_VALUE_LENGTH], x[PTP_PROP_DATA_TYPE]);
         place = value[PTP_LIST_VALUE_NEXT];
@@ -212,17 +212,20 @@ static void print_list(const uint8_t *s, size_t len, const uint64_t *x)
         printf(" ?");
 }
 
-static void property(const uint8_t *s, size_t len)
+static void property(bool book, const uint8_t *s, size_t len)
 {
     uint64_t x[PTP_PROP_NUMBERS];
-    if (!gave(ptp_prop_info(s, len, x, PTP_PROP_NUMBERS), 16))
+    if (!gave(ptp_prop_info(book, s, len, x, PTP_PROP_NUMBERS), 16))
         return;
     uint64_t type = x[PTP_PROP_DATA_TYPE];
     printf("ok %" PRIu64, x[PTP_PROP_TAKEN]);
     print_number(x[PTP_PROP_PROPERTY_CODE]);
     print_number(type);
     print_number(x[PTP_PROP_GET_SET]);
-    print_number(x[PTP_PROP_IS_ENABLE]);
+    if (x[PTP_PROP_IS_ENABLE] == PTP_ENABLE_ABSENT)
+        printf(" -");
+    else
+        print_number(x[PTP_PROP_IS_ENABLE]);
     print_value(s, x[PTP_PROP_FACTORY_DEFAULT_START], x[PTP_PROP_FACTORY_DEFAULT_LENGTH], type);
     print_value(s, x[PTP_PROP_CURRENT_START], x[PTP_PROP_CURRENT_LENGTH], type);
     if (x[PTP_PROP_FORM] == PTP_FORM_NONE)
@@ -234,13 +237,13 @@ static void property(const uint8_t *s, size_t len)
         print_value(s, x[PTP_PROP_STEP_START], x[PTP_PROP_STEP_LENGTH], type);
     }
     if (x[PTP_PROP_FORM] == PTP_FORM_LIST)
-        print_list(s, len, x);
+        print_list(book, s, len, x);
 }
 
-static void newer(const uint8_t *s, size_t len, const uint8_t *payload, size_t payload_len)
+static void newer(bool book, const uint8_t *s, size_t len, const uint8_t *payload, size_t payload_len)
 {
     uint64_t x[PTP_NEWER_NUMBERS];
-    if (!gave(ptp_newer_value(s, len, payload, payload_len, x, PTP_NEWER_NUMBERS), 3))
+    if (!gave(ptp_newer_value(book, s, len, payload, payload_len, x, PTP_NEWER_NUMBERS), 3))
         return;
     const uint8_t *part = (x[PTP_NEWER_OF_PAYLOAD] ? payload : s) + x[PTP_NEWER_START];
     printf("ok %s", x[PTP_NEWER_OF_PAYLOAD] ? "payload" : "description");
@@ -279,7 +282,7 @@ static void command(uint32_t state, const char *code, const char *params_word, c
     print_made(answer, state, number, second, room);
 }
 
-static void set_value(uint32_t state, const char *description, const char *code, const char *value, const char *room_word)
+static void set_value(bool book, uint32_t state, const char *description, const char *code, const char *value, const char *room_word)
 {
     static uint8_t chosen[LONGEST];
     size_t len = read_bytes(description, first);
@@ -287,7 +290,7 @@ static void set_value(uint32_t state, const char *description, const char *code,
     size_t room = number_of(room_word);
     uint32_t number = state;
     memset(second, 0xA5, room);
-    int64_t answer = ptp_set_value(&number, first, len, (uint16_t)number_of(code), chosen, chosen_len, second, room);
+    int64_t answer = ptp_set_value(book, &number, first, len, (uint16_t)number_of(code), chosen, chosen_len, second, room);
     print_made(answer, state, number, second, room);
 }
 
@@ -357,15 +360,15 @@ static void ask(char *const *word)
     else if (strcmp(kind, "storage") == 0)
         storage(first, len);
     else if (strcmp(kind, "property") == 0)
-        property(first, len);
+        property(strcmp(word[1], "book") == 0, first, read_bytes(word[2], first));
     else if (strcmp(kind, "newer") == 0)
-        newer(first, len, second, read_bytes(word[2], second));
+        newer(strcmp(word[1], "book") == 0, first, read_bytes(word[2], first), second, read_bytes(word[3], second));
     else if (strcmp(kind, "command") == 0)
         command(number_of(word[1]), word[2], word[3], NULL, word[4]);
     else if (strcmp(kind, "command-data") == 0)
         command(number_of(word[1]), word[2], word[3], word[4], word[5]);
     else if (strcmp(kind, "panel") == 0)
-        set_value(number_of(word[1]), word[2], word[3], word[4], word[5]);
+        set_value(strcmp(word[1], "book") == 0, number_of(word[2]), word[3], word[4], word[5], word[6]);
     else if (strcmp(kind, "answer") == 0)
         answer(second, read_bytes(word[2], second), number_of(word[1]));
     else if (strcmp(kind, "record") == 0)

@@ -1,6 +1,6 @@
 /* Picks the shutter time that follows the current one, and prints the command that sets it.
  *
- *     shutter [HEX]      HEX is a property's description; without it, one that stands here
+ *     shutter [LAYOUT HEX]      HEX is a property's description, LAYOUT crate or book; without them, one that stands here
  *
  * rust/examples/shutter.rs is the same in Rust.
  */
@@ -44,31 +44,31 @@ static uint8_t *read_hex(const char *hex, size_t *len)
 }
 
 /* The place in the list of the value whose bytes are the current value's; -1 where there is none. */
-static long current_place(const uint8_t *s, size_t len, const uint64_t *prop)
+static long current_place(bool book, const uint8_t *s, size_t len, const uint64_t *prop)
 {
     uint64_t value[PTP_LIST_VALUE_NUMBERS];
-    for (size_t n = 0; ptp_list_value(s, len, n, value, PTP_LIST_VALUE_NUMBERS) > 0; n++)
+    for (size_t n = 0; ptp_list_value(book, s, len, n, value, PTP_LIST_VALUE_NUMBERS) > 0; n++)
         if (value[PTP_LIST_VALUE_LENGTH] == prop[PTP_PROP_CURRENT_LENGTH] &&
             memcmp(s + value[PTP_LIST_VALUE_START], s + prop[PTP_PROP_CURRENT_START], value[PTP_LIST_VALUE_LENGTH]) == 0)
             return (long)n;
     return -1;
 }
 
-static int set_next(const uint8_t *s, size_t len)
+static int set_next(bool book, const uint8_t *s, size_t len)
 {
     uint64_t prop[PTP_PROP_NUMBERS];
-    int64_t answer = ptp_prop_info(s, len, prop, PTP_PROP_NUMBERS);
+    int64_t answer = ptp_prop_info(book, s, len, prop, PTP_PROP_NUMBERS);
     if (answer < 0)
         return refused(answer);
-    long place = current_place(s, len, prop);
+    long place = current_place(book, s, len, prop);
     uint64_t next[PTP_LIST_VALUE_NUMBERS];
-    if (place < 0 || ptp_list_value(s, len, (size_t)place + 1, next, PTP_LIST_VALUE_NUMBERS) < 0) {
+    if (place < 0 || ptp_list_value(book, s, len, (size_t)place + 1, next, PTP_LIST_VALUE_NUMBERS) < 0) {
         fprintf(stderr, "no value follows the current one\n");
         return 1;
     }
     uint32_t number = 1; /* OpenSession took 0 */
     uint8_t out[ROOM];
-    answer = ptp_set_value(&number, s, len, (uint16_t)prop[PTP_PROP_DATA_TYPE], s + next[PTP_LIST_VALUE_START], next[PTP_LIST_VALUE_LENGTH],
+    answer = ptp_set_value(book, &number, s, len, (uint16_t)prop[PTP_PROP_DATA_TYPE], s + next[PTP_LIST_VALUE_START], next[PTP_LIST_VALUE_LENGTH],
                            out, ROOM);
     if (answer < 0)
         return refused(answer);
@@ -81,12 +81,15 @@ static int set_next(const uint8_t *s, size_t len)
 int main(int argc, char **argv)
 {
     size_t len;
-    uint8_t *s = read_hex(argc > 1 ? argv[1] : DESCRIPTION, &len);
-    if (!s) {
-        fprintf(stderr, "the description is two small hexadecimal digits a byte\n");
+    const char *layout = argc > 1 ? argv[1] : "crate";
+    bool book = strcmp(layout, "book") == 0;
+    uint8_t *s = read_hex(argc > 2 ? argv[2] : DESCRIPTION, &len);
+    if (!s || (!book && strcmp(layout, "crate") != 0)) {
+        fprintf(stderr, "the layout is crate or book, the description two small hexadecimal digits a byte\n");
+        free(s);
         return 2;
     }
-    int code = set_next(s, len);
+    int code = set_next(book, s, len);
     free(s);
     return code;
 }

@@ -69,11 +69,11 @@ def tidy_row(question, types):
                  lambda rng: ask(rng, one_row(rng, types)))
 
 
-def property_bytes(rng, code=None, form=None):
-    """A whole description of a type, with a form."""
+def property_bytes(rng, layout, code=None, form=None):
+    """A whole description by a layout, of a type, with a form."""
     code = type_code(rng) if code is None else code
     form = rng.choice([0, 1, 1, 2, 2, 2, 3, 255]) if form is None else form
-    head = rng.randbytes(2) + code.to_bytes(2, "little") + rng.randbytes(2)
+    head = rng.randbytes(2) + code.to_bytes(2, "little") + rng.randbytes(2 if layout == datasets.CRATE else 1)
     head += row_bytes(rng, [code] * 2) + bytes([form])
     if form == datasets.RANGE_FORM:
         return head + row_bytes(rng, [code] * 3)
@@ -101,51 +101,66 @@ def long_lists():
 
 
 def short_descriptions(rng):
-    """The numbered examples, every form byte, lists around 256, every type and form cut at every byte."""
+    """The numbered examples and one that fits both layouts, every form byte, lists around 256, every type and form cut at
+    every byte."""
     yield bytes.fromhex("015002000001643201006401")
     yield bytes.fromhex("05d0ffff01010000020200000241000000")
+    yield bytes.fromhex("015002000001640000")
     for count in (0, 1, 2, 255, 256, 257):
         yield from (undefined_list(count), string_list(count), string_list(count)[:-1])
     for form in range(256):
         yield bytes.fromhex("0150020000016432") + bytes([form]) + b"\x01\x00\x07\x08"
-    for code, form in itertools.product([0, *TYPES], (0, 1, 2)):
-        yield from every_prefix(property_bytes(rng, code, form)[:120])
+    for layout, code, form in itertools.product(datasets.LAYOUTS, [0, *TYPES], (0, 1, 2)):
+        yield from every_prefix(property_bytes(rng, layout, code, form)[:120])
 
 
-def one_description(rng):
-    return maybe_damaged(rng, property_bytes(rng)) + some_bytes(rng, 2)
+def one_description(rng, layout):
+    """Mostly by the layout that is named."""
+    made_by = layout if rng.random() < 0.8 else rng.choice(datasets.LAYOUTS)
+    return maybe_damaged(rng, property_bytes(rng, made_by)) + some_bytes(rng, 2)
+
+
+def by_both(ask, rng, descriptions):
+    """Each of them by each layout."""
+    for data, layout in itertools.product(descriptions, datasets.LAYOUTS):
+        yield ask(rng, layout, data)
+
+
+def by_either(ask, rng):
+    layout = rng.choice(datasets.LAYOUTS)
+    return ask(rng, layout, one_description(rng, layout))
 
 
 def on_description(ask):
-    """A question about a description: `ask(rng, data)` makes its line."""
-    return Cases(lambda rng: (ask(rng, data) for data in itertools.chain(long_lists(), short_descriptions(rng))),
-                 lambda rng: ask(rng, one_description(rng)))
+    """A question about a description: `ask(rng, layout, data)` makes its line."""
+    return Cases(lambda rng: by_both(ask, rng, itertools.chain(long_lists(), short_descriptions(rng))),
+                 lambda rng: by_either(ask, rng))
 
 
-def ask_property(rng, data):
-    return f"property {hexed(data)}"
+def ask_property(rng, layout, data):
+    return f"property {layout} {hexed(data)}"
 
 
-def ask_tidy_property(rng, data):
-    return f"tidy-property {hexed(data)} {room_for(rng, lambda: datasets.tidy_property(data))}"
+def ask_tidy_property(rng, layout, data):
+    return f"tidy-property {layout} {hexed(data)} {room_for(rng, lambda: datasets.tidy_property(layout, data))}"
 
 
-def ask_list(rng, data):
-    return f"list {hexed(data)}"
+def ask_list(rng, layout, data):
+    return f"list {layout} {hexed(data)}"
 
 
-def ask_nth(rng, data):
-    return f"nth {rng.choice([0, 0, 1, 2, rng.randrange(7)])} {hexed(data)}"
+def ask_nth(rng, layout, data):
+    return f"nth {layout} {rng.choice([0, 0, 1, 2, rng.randrange(7)])} {hexed(data)}"
 
 
 def short_nth(rng):
     for index, count in itertools.product((0, 1, MOST_LISTED - 1, MOST_LISTED, *EDGES_64), (0, MOST_LISTED)):
-        yield f"nth {index} {hexed(undefined_list(count))}"
-    yield from (ask_nth(rng, data) for data in short_descriptions(rng))
+        yield from (f"nth {layout} {index} {hexed(undefined_list(count))}" for layout in datasets.LAYOUTS)
+    yield from by_both(ask_nth, rng, short_descriptions(rng))
 
 
 def one_nth(rng):
-    return ask_nth(rng, one_description(rng))
+    return by_either(ask_nth, rng)
 
 
 def short_step(rng):
@@ -155,13 +170,14 @@ def short_step(rng):
 
 
 def one_step(rng):
-    data = maybe_damaged(rng, property_bytes(rng))
-    return f"step {hexed(data)} {step_numbers(rng, data)}"
+    layout = rng.choice(datasets.LAYOUTS)
+    data = maybe_damaged(rng, property_bytes(rng, layout))
+    return f"step {hexed(data)} {step_numbers(rng, layout, data)}"
 
 
-def step_numbers(rng, data):
+def step_numbers(rng, layout, data):
     """Mostly the numbers of the dataset's own list, at its start or at a value; else any."""
-    here = datasets.list_of(data)
+    here = datasets.list_of(layout, data)
     for _ in range(rng.randrange(3)):
         stepped = datasets.step(data, here)
         here = stepped[1] if stepped else here
@@ -176,20 +192,20 @@ def step_numbers(rng, data):
 
 def short_newer(rng):
     """Each type, with a payload that is one value, cut at every byte, and with a byte after it."""
-    for code in [0, *TYPES]:
-        description, good = property_bytes(rng, code, 0), value_bytes(rng, code)
+    for layout, code in itertools.product(datasets.LAYOUTS, [0, *TYPES]):
+        description, good = property_bytes(rng, layout, code, 0), value_bytes(rng, code)
         for payload in itertools.chain(every_prefix(good), [good + b"\x00"]):
-            yield f"newer {hexed(description)} {hexed(payload)}"
+            yield from (f"newer {named} {hexed(description)} {hexed(payload)}" for named in datasets.LAYOUTS)
 
 
 def one_newer(rng):
-    code = type_code(rng)
-    description, payload = property_bytes(rng, code), value_bytes(rng, code)
+    layout, code = rng.choice(datasets.LAYOUTS), type_code(rng)
+    description, payload = property_bytes(rng, layout, code), value_bytes(rng, code)
     if rng.random() < 0.4:
         payload = damaged(rng, payload)
     if rng.random() < 0.3:
         description = damaged(rng, description)
-    return f"newer {hexed(description)} {hexed(payload)}"
+    return f"newer {layout} {hexed(description)} {hexed(payload)}"
 
 
 DATASET_CASES = {

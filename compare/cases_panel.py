@@ -5,7 +5,7 @@ import itertools
 from compare.bits import Cases, hexed, maybe_damaged, room_for, string, type_code, value_bytes
 from compare.cases_session import STATES, state
 from model import panel, values
-from model.datasets import LIST_FORM, RANGE_FORM
+from model.datasets import BOOK, CRATE, LIST_FORM, RANGE_FORM
 
 NO_FORMS = [0, 3, 0x7F, 0xFF]
 ROOM = 128
@@ -36,7 +36,7 @@ def of_list(code, default, members):
 
 
 def asked(number, data, code, chosen, room=ROOM):
-    return f"panel {number} {hexed(data)} {code} {hexed(chosen)} {room}"
+    return f"panel {CRATE} {number} {hexed(data)} {code} {hexed(chosen)} {room}"
 
 
 def short_ranges():
@@ -72,8 +72,16 @@ def short_strings():
         yield asked(7, of_list(values.STRING, b"\x00", []), values.STRING, chosen)
 
 
+def in_book(line):
+    """The same question by the book's layout, whose description has no `IsEnable`, the sixth byte."""
+    question, _, number, data, *rest = line.split(" ")
+    return " ".join([question, BOOK, number, data[:10] + data[12:], *rest])
+
+
 def short_panel(rng):
-    return itertools.chain(short_orders(), short_strings(), short_ranges())
+    for line in itertools.chain(short_orders(), short_strings(), short_ranges()):
+        yield line
+        yield in_book(line)
 
 
 def near(rng, code, least, most, step):
@@ -127,8 +135,9 @@ def one_panel(rng):
         chosen = maybe_damaged(rng, chosen)
     if rng.random() < 0.05:
         code = type_code(rng)
-    room = room_for(rng, lambda: panel.set_value(number, data, code, chosen).output)
-    return asked(number, data, code, chosen, room)
+    room = room_for(rng, lambda: panel.set_value(CRATE, number, data, code, chosen).output)
+    line = asked(number, data, code, chosen, room)
+    return line if rng.random() < 0.5 else in_book(line)
 
 
 PANEL_CASES = {"panel": Cases(short_panel, one_panel)}

@@ -8,15 +8,16 @@ from model import ask
 GOOD = [
     "value 4 0 3412", "end 0 00", "unit 0 0 00", "item 0x4002 0 0 00000000", "utf8 0 00 4", "write-value 4 5 2",
     "write-value 9 1:2 16", "write-value 0 undef 1", "write-string 65,66 9", "write-array 0x4002 0102 9",
-    "tidy-value 0xffff 00 3", "device 6400", "property 0150", "tidy-property 0150 3", "nth 0 0150", "step 00 2 0 1 0",
-    "newer 0150 00", "header 0c00", "write-container 1 2 3 00 13", "command 0 4098 3,0,0 24",
+    "tidy-value 0xffff 00 3", "device 6400", "property crate 0150",
+    "property book 0150", "tidy-property crate 0150 3", "nth crate 0 0150", "list book 0150", "step 00 2 0 1 0",
+    "newer crate 0150 00", "header 0c00", "write-container 1 2 3 00 13", "command 0 4098 3,0,0 24",
     "command-data 0 4118 - 00 40", "call OpenSession 0 0 0 0 24", "answer 0 -", "handles 00000000",
     "walk 1 0 1 00", "path 1 0 1 00 0 4", "paths 1 0 1 00 4", "record 00", "write-record 3 41 9", "listing -",
     "response-name 8193", "command-name 4098",
 ]
 BAD_WORDS = ["", "x", "-1", "+1", "1.", "0x", "0X10", "0xg", "1,", ",1", "1,,2", "--", "0g", "123", "\t", "1:2", "1:", "undefined",
              "18446744073709551616", "99999999999999999999999", "0x10000000000000000", "4294967296", "65536", "256",
-             "1_000", "é", "00 ", "opensession"]
+             "1_000", "é", "00 ", "opensession", "Crate", "books"]
 OUT_OF_RANGE = [
     "write-value 1 128 9", "write-value 1 -129 9", "write-value 2 256 9", "write-value 2 -1 9", "write-value 3 32768 9",
     "write-value 7 9223372036854775808 9", "write-value 7 -9223372036854775809 9", "write-value 8 18446744073709551616 9",
@@ -24,7 +25,8 @@ OUT_OF_RANGE = [
     "write-value 0xffff 0 9", "write-value 0x4002 0 9", "write-value 0 0 9", "write-value 4 undef 9", "write-value 1 - 9",
     "write-value 1 -- 9", "write-value 1 --1 9", "utf8 0 00 1048577", "write-string 65536 9", "step 00 2 0 65536 0",
     "step 00 2 0 1 256", "walk 1 65536 1 00", "walk 1 0 4294967296 00", "walk 4294967296 0 1 00",
-    "call GetThumb 0 0 0 0 24", "call opensession 0 0 0 0 24", "command 4294967296 1 - 12", "command 0 65536 - 12",
+    "property 015002000001643201006401", "tidy-property 0150 3", "nth 0 0150", "list 0150", "newer 0150 00",
+    "property pima 0150", "property cratebook 0150", "list BOOK 0150", "call GetThumb 0 0 0 0 24", "call opensession 0 0 0 0 24", "command 4294967296 1 - 12", "command 0 65536 - 12",
 ]
 # Not malformed, though they look so: `ask` must take them.
 ODD_BUT_GOOD = [

@@ -5,7 +5,7 @@ A rule tests the question, never an answer.
 
 import re
 
-from model import ask, names, session, tree, values
+from model import ask, datasets, names, session, tree, values
 from model.containers import COMMAND, EVENT, HEADER, MOST_PARAMETERS, RESPONSE
 
 # After this number the Rust's next has no room.
@@ -47,6 +47,10 @@ def row_for(group, line):
         return ADDED[group]
     rule = RULES.get(group)
     return rule(*words_of(line)) if rule else None
+
+
+def device_property(layout, data):
+    return "D30" if layout == datasets.BOOK else None
 
 
 def tidy_value(code, data, room):
@@ -129,6 +133,7 @@ def on_tree(handles, parents, ends, names, *words):
 
 
 RULES = {
+    "property": device_property,
     "tidy-value": tidy_value, "item": item, "write-array": write_array, "end": end,
     "header": header, "container": container, "write-container": write_container,
     "command": command, "command-data": command, "call": call, "answer": answer,

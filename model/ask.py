@@ -85,6 +85,12 @@ def u32s(word):
     return numbers(word, u32)
 
 
+def layout(word):
+    if word not in datasets.LAYOUTS:
+        raise Malformed
+    return word
+
+
 def word_of(word):
     return word
 
@@ -229,9 +235,10 @@ def tidy_row(types):
     return lambda data, size: writing_bytes(size, datasets.tidy_row, types, data)
 
 
-def device_property(data):
-    read = datasets.read_property(data)
-    head = [read.length, read.code, read.type, read.getset, read.enable, show(read.default), show(read.current)]
+def device_property(named, data):
+    read = datasets.read_property(named, data)
+    enable = "-" if read.enable is None else read.enable
+    head = [read.length, read.code, read.type, read.getset, enable, show(read.default), show(read.current)]
     if read.form == datasets.RANGE_FORM:
         return ok(*head, "range", show_all(read.values))
     if read.form == datasets.LIST_FORM:
@@ -239,17 +246,17 @@ def device_property(data):
     return ok(*head, "none")
 
 
-def tidy_property(data, size):
-    return writing_bytes(size, datasets.tidy_property, data)
+def tidy_property(named, data, size):
+    return writing_bytes(size, datasets.tidy_property, named, data)
 
 
-def nth(index, data):
-    found, start, length = datasets.nth(index, data)
+def nth(named, index, data):
+    found, start, length = datasets.nth(named, index, data)
     return ok(show(found), start, length)
 
 
-def whole_list(data):
-    here, stepped = datasets.all_steps(data)
+def whole_list(named, data):
+    here, stepped = datasets.all_steps(named, data)
     told = [here.refusal, here.place] if here.refusal else [0]
     return ok(*told, len(stepped), *map(show, stepped))
 
@@ -262,8 +269,8 @@ def step(data, code, place, left, refusal):
     return ok(show(found), here.place, here.left)
 
 
-def newer(description, payload):
-    part = datasets.newer(description, payload)
+def newer(named, description, payload):
+    part = datasets.newer(named, description, payload)
     source = description if part.of == "description" else payload
     return ok(part.of, part.start, part.length, show_bytes(source[part.start:part.start + part.length]))
 
@@ -289,8 +296,8 @@ def command_data(state, code, parameters, payload, size):
     return making(size, session.command_with_data, state, code, parameters, payload)
 
 
-def set_value(state, description, code, chosen, size):
-    return making(size, panel.set_value, state, description, code, chosen)
+def set_value(named, state, description, code, chosen, size):
+    return making(size, panel.set_value, named, state, description, code, chosen)
 
 
 def call(called, state, storage, wanted, handle, size):
@@ -364,21 +371,21 @@ QUESTIONS = {
     "device": ((hex_bytes,), row(datasets.DEVICE)),
     "object": ((hex_bytes,), row(datasets.OBJECT)),
     "storage": ((hex_bytes,), row(datasets.STORAGE)),
-    "property": ((hex_bytes,), device_property),
+    "property": ((layout, hex_bytes), device_property),
     "tidy-device": ((hex_bytes, room), tidy_row(datasets.DEVICE)),
     "tidy-object": ((hex_bytes, room), tidy_row(datasets.OBJECT)),
     "tidy-storage": ((hex_bytes, room), tidy_row(datasets.STORAGE)),
-    "tidy-property": ((hex_bytes, room), tidy_property),
-    "nth": ((u64, hex_bytes), nth),
-    "list": ((hex_bytes,), whole_list),
+    "tidy-property": ((layout, hex_bytes, room), tidy_property),
+    "nth": ((layout, u64, hex_bytes), nth),
+    "list": ((layout, hex_bytes), whole_list),
     "step": ((hex_bytes, u16, u64, u16, u8), step),
-    "newer": ((hex_bytes, hex_bytes), newer),
+    "newer": ((layout, hex_bytes, hex_bytes), newer),
     "header": ((hex_bytes,), header),
     "container": ((hex_bytes,), container),
     "write-container": ((u16, u16, u32, hex_bytes, room), write_container),
     "command": ((u32, u16, u32s, room), command),
     "command-data": ((u32, u16, u32s, hex_bytes, room), command_data),
-    "panel": ((u32, hex_bytes, u16, hex_bytes, room), set_value),
+    "panel": ((layout, u32, hex_bytes, u16, hex_bytes, room), set_value),
     "call": ((word_of, u32, u32, u32, u32, room), call),
     "answer": ((u32, hex_bytes), find_answer),
     "handles": ((hex_bytes,), handles),

@@ -16,8 +16,12 @@ STORAGE = [UINT16, UINT16, UINT16, UINT64, UINT64, UINT32, STRING, STRING]
 RANGE_FORM = 1
 LIST_FORM = 2
 
-# `current_at` and `form_at` are the places of the current value's bytes and of the byte after the form byte:
-# the reading's places, not its contents.
+# The layouts of a description: the crate's has the `IsEnable` byte behind GetSet, the book's (PIMA 15740) has none.
+CRATE, BOOK = "crate", "book"
+LAYOUTS = (CRATE, BOOK)
+
+# `enable` is None in the book's layout. `current_at` and `form_at` are the places of the current value's bytes and of
+# the byte after the form byte: the reading's places, not its contents.
 Property = namedtuple("Property", "code type getset enable default current form values length current_at values_at")
 
 # Where a list's next value stands: what the list struct holds beside the bytes.
@@ -41,9 +45,9 @@ def tidy_row(types, data):
     return b"".join(write_value(code, value) for code, value in zip(types, row))
 
 
-def read_property(data):
-    """Code, type, GetSet, IsEnable, default, current, form byte; then the form's own values."""
-    (code, kind, getset, enable, default), current_at = _read_to_default(data)
+def read_property(layout, data):
+    """Code, type, GetSet, IsEnable if the layout has it, default, current, form byte; then the form's own values."""
+    (code, kind, getset, enable, default), current_at = _read_to_default(layout, data)
     current, at = read_value(kind, data, current_at)
     form, at = read_number(data, at, 1)
     count, values_at = _read_count(form, data, at)
@@ -51,8 +55,9 @@ def read_property(data):
     return Property(code, kind, getset, enable, default, current, form, values, after, current_at, values_at)
 
 
-def _read_to_default(data):
-    (code, kind, getset, enable), at = read_row([UINT16, UINT16, UINT8, UINT8], data)
+def _read_to_default(layout, data):
+    (code, kind, getset), at = read_row([UINT16, UINT16, UINT8], data)
+    enable, at = read_number(data, at, 1) if layout == CRATE else (None, at)
     default, at = read_value(kind, data, at)
     return (code, kind, getset, enable, default), at
 
@@ -66,11 +71,11 @@ def _read_count(form, data, at):
     return 0, at
 
 
-def tidy_property(data):
+def tidy_property(layout, data):
     """The tidy form byte of no form is 0."""
-    read = read_property(data)
+    read = read_property(layout, data)
     head = [write_number(UINT16, read.code), write_number(UINT16, read.type),
-            write_number(UINT8, read.getset), write_number(UINT8, read.enable),
+            write_number(UINT8, read.getset), b"" if read.enable is None else write_number(UINT8, read.enable),
             write_value(read.type, read.default), write_value(read.type, read.current)]
     return b"".join(head) + _tidy_form(read) + b"".join(write_value(read.type, value) for value in read.values)
 
@@ -83,19 +88,19 @@ def _tidy_form(read):
     return b"\x00"
 
 
-def nth(index, data):
+def nth(layout, index, data):
     """The n-th value of the list from 0, with start and length of its bytes; 12 if absent or no list."""
-    read = read_property(data)
+    read = read_property(layout, data)
     refuse_if(read.form != LIST_FORM or index >= len(read.values), PLACE)
     _, start = read_row([read.type] * index, data, read.values_at)
     value, after = read_value(read.type, data, start)
     return value, start, after - start
 
 
-def list_of(data):
+def list_of(layout, data):
     """Where the list begins: a refused dataset has its refusal's number and place, and nothing left."""
     try:
-        read = read_property(data)
+        read = read_property(layout, data)
     except Refused as refused:
         return ListPlace(type=0, place=refused.place, left=0, refusal=refused.number)
     left = len(read.values) if read.form == LIST_FORM else 0
@@ -113,9 +118,9 @@ def step(data, here):
     return value, here._replace(place=after, left=here.left - 1)
 
 
-def all_steps(data):
+def all_steps(layout, data):
     """Where the list begins, and every value that stepping gives before the end."""
-    start = here = list_of(data)
+    start = here = list_of(layout, data)
     values = []
     while (stepped := step(data, here)) is not None:
         value, here = stepped
@@ -123,10 +128,10 @@ def all_steps(data):
     return start, values
 
 
-def newer(description, payload):
+def newer(layout, description, payload):
     """The whole payload if it is exactly one value of the description's type, else the current value's bytes."""
     try:
-        read = read_property(description)
+        read = read_property(layout, description)
     except Refused:
         return Part("description", 0, 0)
     if _is_one_value(read.type, payload):

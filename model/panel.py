@@ -10,9 +10,9 @@ from model.values import STRING, WIDTHS, expect_end, item_code, read_value, writ
 RANGED = range(0x0001, 0x0009)
 
 
-def set_value(state, description, code, chosen):
+def set_value(layout, state, description, code, chosen):
     """The description's own, 15, the chosen value's 1, 2, 3, then 16 and 10. A refusal leaves the state."""
-    read = read_property(description)
+    read = read_property(layout, description)
     refuse_if(code != read.type or not has_range(read), TYPE)
     value, after = read_value(code, chosen, 0)
     expect_end(chosen, after)

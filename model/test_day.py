@@ -1,4 +1,4 @@
-"""The day of examples/ holds what it says: each Data payload is a dataset, whole, read by the question that it answers."""
+"""The days of examples/ hold what they say: each Data payload is a dataset, whole, read by the question that it answers."""
 
 import pathlib
 import unittest
@@ -7,22 +7,27 @@ from model import recording
 from model.ask import answer
 from model.containers import DATA, read_container
 
-DAY = pathlib.Path(__file__).resolve().parent.parent / "examples" / "day.recording"
+EXAMPLES = pathlib.Path(__file__).resolve().parent.parent / "examples"
 
 # The question that reads what a command's Data payload carries, and what its answer must begin with.
-QUESTIONS = {
+DAY = {
     0x1001: ("device-info", "ok 100 6 100 "),
     0x1004: ("storage-ids", "ok 65537"),
     0x1005: ("storage-info", "ok 4 3 0 64000000000 "),
     0x1007: ("handles", "ok 1,2,3"),
     0x1008: ("object-info", "ok 65537 "),
-    0x1014: ("property", "ok {length} "),
+    0x1014: ("property crate", "ok {length} "),
+}
+# The second maker's camera keeps to the book.
+BOOK = {
+    0x1001: ("device-info", "ok 100 0 0 "),
+    0x1014: ("property book", "ok {length} "),
 }
 
 
-def data_payloads():
-    """Code and payload of each Data container of the day."""
-    data, at = DAY.read_bytes(), 0
+def data_payloads(name):
+    """Code and payload of each Data container of a day."""
+    data, at = (EXAMPLES / f"{name}.recording").read_bytes(), 0
     while at < len(data):
         record = recording.read_record(data, at)
         body = data[record.start:record.start + record.length]
@@ -34,14 +39,18 @@ def data_payloads():
 
 
 class Day(unittest.TestCase):
-    def test_payloads_are_datasets(self):
+    def holds(self, name, questions):
         seen = set()
-        for code, payload in data_payloads():
-            if code in QUESTIONS:
-                question, start = QUESTIONS[code]
+        for code, payload in data_payloads(name):
+            if code in questions:
+                question, start = questions[code]
                 self.assertTrue(answer(f"{question} {payload.hex()}").startswith(start.format(length=len(payload))), question)
                 seen.add(code)
-        self.assertEqual(seen, set(QUESTIONS))
+        self.assertEqual(seen, set(questions))
+
+    def test_payloads_are_datasets(self):
+        self.holds("day", DAY)
+        self.holds("book", BOOK)
 
 
 if __name__ == "__main__":

@@ -12,11 +12,11 @@ mod archive {
         pub fn ptp_device_info(s: *const u8, len: usize, out: *mut u64, room: usize) -> u64;
         pub fn ptp_object_info(s: *const u8, len: usize, out: *mut u64, room: usize) -> u64;
         pub fn ptp_storage_info(s: *const u8, len: usize, out: *mut u64, room: usize) -> u64;
-        pub fn ptp_prop_info(s: *const u8, len: usize, out: *mut u64, room: usize) -> u64;
-        pub fn ptp_tidy_property(s: *const u8, len: usize, out: *mut u8, room: usize) -> u64;
+        pub fn ptp_prop_info(book: bool, s: *const u8, len: usize, out: *mut u64, room: usize) -> u64;
+        pub fn ptp_tidy_property(book: bool, s: *const u8, len: usize, out: *mut u8, room: usize) -> u64;
         pub fn ptp_command(number: *mut u32, code: u16, params: *const u32, count: usize, data: *const u8, len: usize,
                        with_data: bool, out: *mut u8, room: usize) -> u64;
-        pub fn ptp_set_value(number: *mut u32, description: *const u8, description_len: usize, code: u16, value: *const u8,
+        pub fn ptp_set_value(book: bool, number: *mut u32, description: *const u8, description_len: usize, code: u16, value: *const u8,
                          value_len: usize, out: *mut u8, room: usize) -> u64;
         pub fn ptp_find_answer(s: *const u8, len: usize, number: u32, out: *mut u64, room: usize) -> u64;
         pub fn ptp_paths(handles: *const u32, handle_count: usize, parents: *const u16, parent_count: usize,
@@ -30,6 +30,18 @@ mod archive {
         pub fn bench_tidy_storage(s: *const u8, len: usize, out: *mut u8, room: usize) -> u64;
         pub fn bench_response_place(code: u16) -> u64;
         pub fn bench_command_place(code: u16) -> u64;
+    }
+
+    pub unsafe extern "C" fn crate_prop_info(s: *const u8, len: usize, out: *mut u64, room: usize) -> u64 {
+        ptp_prop_info(false, s, len, out, room)
+    }
+
+    pub unsafe extern "C" fn book_prop_info(s: *const u8, len: usize, out: *mut u64, room: usize) -> u64 {
+        ptp_prop_info(true, s, len, out, room)
+    }
+
+    pub unsafe extern "C" fn crate_tidy_property(s: *const u8, len: usize, out: *mut u8, room: usize) -> u64 {
+        ptp_tidy_property(false, s, len, out, room)
     }
 
     pub fn numbers(f: Numbers, s: &[u8], out: &mut [u64]) -> u64 {
@@ -54,7 +66,7 @@ mod archive {
     pub fn set_value(number: u32, description: &[u8], code: u16, value: &[u8], out: &mut [u8]) -> u64 {
         let mut number = number;
         unsafe {
-            ptp_set_value(&mut number, description.as_ptr(), description.len(), code, value.as_ptr(), value.len(),
+            ptp_set_value(false, &mut number, description.as_ptr(), description.len(), code, value.as_ptr(), value.len(),
                           out.as_mut_ptr(), out.len())
         }
     }

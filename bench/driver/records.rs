@@ -43,17 +43,24 @@ mod records {
 
         let decode: fn(&[u8]) -> Result<PtpPropInfo, Error> = black_box(|s| PtpPropInfo::decode(&mut Cursor::new(s)));
         let theirs = decode(&property).expect("a property record");
-        accepted(numbers(ptp_prop_info, &property, &mut fields));
+        accepted(numbers(crate_prop_info, &property, &mut fields));
         Row(&property, &fields).is_property(&theirs);
         line("property record, a list of 60 UINT32", 1,
-             side(|| { black_box(numbers(ptp_prop_info, black_box(&property), &mut fields)); }),
+             side(|| { black_box(numbers(crate_prop_info, black_box(&property), &mut fields)); }),
              Some(side(|| { black_box(decode(black_box(&property)).is_ok()); })));
+
+        let mut book = property.clone();
+        book.remove(5); // the `IsEnable` byte
+        assert_eq!(accepted(numbers(book_prop_info, &book, &mut fields)), 16);
+        assert_eq!((fields[0], fields[4], fields[12]), (book.len() as u64, 256, 60));
+        line("property record, 60 UINT32, by the book", 1,
+             side(|| { black_box(numbers(book_prop_info, black_box(&book), &mut fields)); }), None);
 
         for &(name, f, ref record) in &[
             ("device record written tidy", bench_tidy_device as Bytes, &device),
             ("object record written tidy", bench_tidy_object as Bytes, &object),
             ("storage record written tidy", bench_tidy_storage as Bytes, &storage),
-            ("property record written tidy", ptp_tidy_property as Bytes, &property),
+            ("property record written tidy", crate_tidy_property as Bytes, &property),
         ] {
             let count = accepted(bytes(f, record, &mut tidy));
             assert_eq!(&tidy[..count], &record[..]);

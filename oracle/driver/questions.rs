@@ -38,7 +38,7 @@ mod questions {
             "device" => plain(device(&words.bytes(0))),
             "object" => plain(object(&words.bytes(0))),
             "storage" => plain(storage(&words.bytes(0))),
-            "property" => plain(property(&words.bytes(0))),
+            "property" if words.0[0] == "crate" => plain(property(&words.bytes(1))),
             "header" => plain(header(&words.bytes(0))),
             "container" => plain(container(&words.bytes(0))),
             "write-container" => message(words.code(0), words.code(1), words.u32(2), &words.bytes(3))

@@ -1,9 +1,9 @@
 //! Picks the shutter time that follows the current one, and prints the command that sets it.
 //!
-//!     shutter [HEX]      HEX is a property's description; without it, one that stands here
+//!     shutter [LAYOUT HEX]      HEX is a property's description, LAYOUT crate or book; without them, one that stands here
 //!
 //! c/shutter.c is the same in C.
-use ptp_proved::{PtpFormData, PtpPropInfo, PtpValue, Session};
+use ptp_proved::{PropLayout, PtpFormData, PtpPropInfo, PtpValue, Session};
 use std::process::ExitCode;
 
 // An exposure time, 0x500D, a UINT32 in units of 0.1 ms: 1/125 s now, out of a list of six.
@@ -20,6 +20,14 @@ const DESCRIPTION: &str = concat!(
     "4d010000",
 );
 
+fn read_layout(word: &str) -> Option<PropLayout> {
+    match word {
+        "crate" => Some(PropLayout::Crate),
+        "book" => Some(PropLayout::Book),
+        _ => None,
+    }
+}
+
 fn read_hex(hex: &str) -> Option<Vec<u8>> {
     let digit = |c: u8| b"0123456789abcdef".iter().position(|&d| d == c);
     if hex.len() % 2 == 1 {
@@ -34,23 +42,24 @@ fn next_value<'a>(info: &PtpPropInfo<'a>) -> Option<PtpValue<'a>> {
     array.iter().skip_while(|value| value.bytes() != info.Current.bytes()).nth(1)
 }
 
-fn set_next(s: &[u8]) -> Result<(), String> {
-    let (info, _) = PtpPropInfo::decode(s).map_err(|why| format!("refusal {}", why.number()))?;
+fn set_next(layout: PropLayout, s: &[u8]) -> Result<(), String> {
+    let (info, _) = PtpPropInfo::decode(layout, s).map_err(|why| format!("refusal {}", why.number()))?;
     let value = next_value(&info).ok_or("no value follows the current one")?;
     let mut session = Session::at(1); // OpenSession took 0
     let mut out = [0; 64];
-    let made = session.set_value(s, info.DataType, value.bytes(), &mut out).map_err(|why| format!("refusal {}", why.number()))?;
+    let made = session.set_value(layout, s, info.DataType, value.bytes(), &mut out).map_err(|why| format!("refusal {}", why.number()))?;
     println!("{}", made.bytes.iter().map(|byte| format!("{byte:02x}")).collect::<String>());
     Ok(())
 }
 
 fn main() -> ExitCode {
-    let hex = std::env::args().nth(1).unwrap_or(DESCRIPTION.into());
-    let Some(s) = read_hex(&hex) else {
-        eprintln!("the description is two small hexadecimal digits a byte");
+    let word = std::env::args().nth(1).unwrap_or("crate".into());
+    let hex = std::env::args().nth(2).unwrap_or(DESCRIPTION.into());
+    let (Some(layout), Some(s)) = (read_layout(&word), read_hex(&hex)) else {
+        eprintln!("the layout is crate or book, the description two small hexadecimal digits a byte");
         return ExitCode::from(2);
     };
-    match set_next(&s) {
+    match set_next(layout, &s) {
         Ok(()) => ExitCode::SUCCESS,
         Err(why) => {
             eprintln!("{why}");

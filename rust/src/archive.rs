@@ -14,14 +14,18 @@ const _: () = assert!(usize::BITS == 64);
 
 type ReadsBytes = unsafe extern "C" fn(*const u8, usize, *mut u64, usize) -> i64;
 
+/// Enable in a property's row where the layout has no such byte: no byte is 256.
+pub(crate) const ENABLE_ABSENT: u64 = 256;
+
 extern "C" {
     fn ptp_device_info(s: *const u8, s_len: usize, out: *mut u64, out_len: usize) -> i64;
     fn ptp_object_info(s: *const u8, s_len: usize, out: *mut u64, out_len: usize) -> i64;
     fn ptp_storage_info(s: *const u8, s_len: usize, out: *mut u64, out_len: usize) -> i64;
-    fn ptp_prop_info(s: *const u8, s_len: usize, out: *mut u64, out_len: usize) -> i64;
+    fn ptp_prop_info(book: bool, s: *const u8, s_len: usize, out: *mut u64, out_len: usize) -> i64;
     fn ptp_read_record(s: *const u8, s_len: usize, out: *mut u64, out_len: usize) -> i64;
-    fn ptp_list_value(s: *const u8, s_len: usize, n: usize, out: *mut u64, out_len: usize) -> i64;
+    fn ptp_list_value(book: bool, s: *const u8, s_len: usize, n: usize, out: *mut u64, out_len: usize) -> i64;
     fn ptp_newer_value(
+        book: bool,
         description: *const u8,
         description_len: usize,
         payload: *const u8,
@@ -29,7 +33,7 @@ extern "C" {
         out: *mut u64,
         out_len: usize,
     ) -> i64;
-    fn ptp_tidy_property(s: *const u8, s_len: usize, out: *mut u8, out_len: usize) -> i64;
+    fn ptp_tidy_property(book: bool, s: *const u8, s_len: usize, out: *mut u8, out_len: usize) -> i64;
     fn ptp_command(
         number: *mut u32,
         code: u16,
@@ -42,6 +46,7 @@ extern "C" {
         out_len: usize,
     ) -> i64;
     fn ptp_set_value(
+        book: bool,
         number: *mut u32,
         description: *const u8,
         description_len: usize,
@@ -112,30 +117,38 @@ pub(crate) fn storage_info(s: &[u8]) -> Result<[u64; 11], Refusal> {
     read(ptp_storage_info, s)
 }
 
-pub(crate) fn prop_info(s: &[u8]) -> Result<[u64; 16], Refusal> {
-    read(ptp_prop_info, s)
+pub(crate) fn prop_info(book: bool, s: &[u8]) -> Result<[u64; 16], Refusal> {
+    read(if book { book_prop_info } else { crate_prop_info }, s)
+}
+
+unsafe extern "C" fn crate_prop_info(s: *const u8, s_len: usize, out: *mut u64, out_len: usize) -> i64 {
+    ptp_prop_info(false, s, s_len, out, out_len)
+}
+
+unsafe extern "C" fn book_prop_info(s: *const u8, s_len: usize, out: *mut u64, out_len: usize) -> i64 {
+    ptp_prop_info(true, s, s_len, out, out_len)
 }
 
 pub(crate) fn read_record(s: &[u8]) -> Result<[u64; 9], Refusal> {
     read(ptp_read_record, s)
 }
 
-pub(crate) fn list_value(s: &[u8], n: usize) -> Result<[u64; 3], Refusal> {
+pub(crate) fn list_value(book: bool, s: &[u8], n: usize) -> Result<[u64; 3], Refusal> {
     let mut out = [0; 3];
-    told(unsafe { ptp_list_value(s.as_ptr(), s.len(), n, out.as_mut_ptr(), out.len()) })?;
+    told(unsafe { ptp_list_value(book, s.as_ptr(), s.len(), n, out.as_mut_ptr(), out.len()) })?;
     Ok(out)
 }
 
-pub(crate) fn newer_value(description: &[u8], payload: &[u8]) -> Result<[u64; 3], Refusal> {
+pub(crate) fn newer_value(book: bool, description: &[u8], payload: &[u8]) -> Result<[u64; 3], Refusal> {
     let mut out = [0; 3];
     told(unsafe {
-        ptp_newer_value(description.as_ptr(), description.len(), payload.as_ptr(), payload.len(), out.as_mut_ptr(), out.len())
+        ptp_newer_value(book, description.as_ptr(), description.len(), payload.as_ptr(), payload.len(), out.as_mut_ptr(), out.len())
     })?;
     Ok(out)
 }
 
-pub(crate) fn tidy_property(s: &[u8], out: &mut [u8]) -> Result<usize, Refusal> {
-    told(unsafe { ptp_tidy_property(s.as_ptr(), s.len(), out.as_mut_ptr(), out.len()) })
+pub(crate) fn tidy_property(book: bool, s: &[u8], out: &mut [u8]) -> Result<usize, Refusal> {
+    told(unsafe { ptp_tidy_property(book, s.as_ptr(), s.len(), out.as_mut_ptr(), out.len()) })
 }
 
 pub(crate) fn command(number: &mut u32, code: u16, params: &[u32], data: Option<&[u8]>, out: &mut [u8]) -> Result<usize, Refusal> {
@@ -155,9 +168,17 @@ pub(crate) fn command(number: &mut u32, code: u16, params: &[u32], data: Option<
     })
 }
 
-pub(crate) fn set_value(number: &mut u32, description: &[u8], code: u16, value: &[u8], out: &mut [u8]) -> Result<usize, Refusal> {
+pub(crate) fn set_value(
+    book: bool,
+    number: &mut u32,
+    description: &[u8],
+    code: u16,
+    value: &[u8],
+    out: &mut [u8],
+) -> Result<usize, Refusal> {
     told(unsafe {
         ptp_set_value(
+            book,
             number,
             description.as_ptr(),
             description.len(),
@@ -245,13 +266,16 @@ mod tests {
         try_rooms(ptp_device_info, &[0; 64], 25);
         try_rooms(ptp_object_info, &[0; 64], 24);
         try_rooms(ptp_storage_info, &[0; 64], 11);
-        try_rooms(ptp_prop_info, &[0; 64], 16);
+        try_rooms(crate_prop_info, &[0; 64], 16);
+        try_rooms(book_prop_info, &[0; 64], 16);
         try_rooms(ptp_read_record, &[6, 0, 0, 0, 3, 0], 9);
     }
 
     #[test]
     fn refused_rows_keep_their_numbers() {
-        for f in [ptp_device_info as ReadsBytes, ptp_object_info, ptp_storage_info, ptp_prop_info, ptp_read_record] {
+        for f in
+            [ptp_device_info as ReadsBytes, ptp_object_info, ptp_storage_info, crate_prop_info, book_prop_info, ptp_read_record]
+        {
             let mut out = [KEPT; 32];
             assert_eq!(read_into(f, &[6], &mut out), Err(Refusal::END { at: 0 }));
             assert_eq!(out, [KEPT; 32]);

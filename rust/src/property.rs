@@ -4,6 +4,21 @@ use crate::dataset::Row;
 use crate::refusal::Refusal;
 use crate::value::{self, PtpValue};
 
+/// Which layout a description has. The caller names it: some bytes fit both, and nothing guesses.
+#[derive(Clone, Copy, Debug, PartialEq, Eq)]
+pub enum PropLayout {
+    /// With the `IsEnable` byte behind `GetSet`.
+    Crate,
+    /// PIMA 15740's, without it.
+    Book,
+}
+
+impl PropLayout {
+    pub(crate) fn is_book(self) -> bool {
+        self == PropLayout::Book
+    }
+}
+
 /// Which values a property may have.
 #[derive(Clone, Copy, Debug, PartialEq, Eq)]
 pub enum PtpFormData<'a> {
@@ -18,7 +33,8 @@ pub struct PtpPropInfo<'a> {
     pub PropertyCode: u16,
     pub DataType: u16,
     pub GetSet: u8,
-    pub IsEnable: u8,
+    /// `None` in every reading of the book's layout, and in no other.
+    pub IsEnable: Option<u8>,
     pub FactoryDefault: PtpValue<'a>,
     pub Current: PtpValue<'a>,
     pub Form: PtpFormData<'a>,
@@ -26,8 +42,8 @@ pub struct PtpPropInfo<'a> {
 
 impl<'a> PtpPropInfo<'a> {
     /// The description that begins these bytes, and how many it takes. Refusals: END, TEXT.
-    pub fn decode(s: &'a [u8]) -> Result<(Self, usize), Refusal> {
-        let numbers = archive::prop_info(s)?;
+    pub fn decode(layout: PropLayout, s: &'a [u8]) -> Result<(Self, usize), Refusal> {
+        let numbers = archive::prop_info(layout.is_book(), s)?;
         let mut row = Row::new(s, &numbers);
         let taken = row.size();
         let property = row.short();
@@ -36,17 +52,17 @@ impl<'a> PtpPropInfo<'a> {
             PropertyCode: property,
             DataType: code,
             GetSet: row.word() as u8,
-            IsEnable: row.word() as u8,
+            IsEnable: enable(row.word()),
             FactoryDefault: PtpValue::new(code, row.part()),
             Current: PtpValue::new(code, row.part()),
-            Form: form(&mut row, code, &s[..taken]),
+            Form: form(&mut row, layout, code, &s[..taken]),
         };
         Ok((info, taken))
     }
 
     /// Value `n`, from 0, of the list of the description that begins these bytes. Refusals: those of reading it, then PLACE.
-    pub fn nth(s: &'a [u8], n: usize) -> Result<PtpValue<'a>, Refusal> {
-        let (info, _) = PtpPropInfo::decode(s)?;
+    pub fn nth(layout: PropLayout, s: &'a [u8], n: usize) -> Result<PtpValue<'a>, Refusal> {
+        let (info, _) = PtpPropInfo::decode(layout, s)?;
         match info.Form {
             PtpFormData::Enumeration { array } => array.nth(n),
             _ => Err(Refusal::PLACE),
@@ -54,15 +70,23 @@ impl<'a> PtpPropInfo<'a> {
     }
 }
 
+fn enable(number: u64) -> Option<u8> {
+    if number == archive::ENABLE_ABSENT {
+        None
+    } else {
+        Some(number as u8)
+    }
+}
+
 // The form's number, then three parts, or a list's bytes and count.
-fn form<'a>(row: &mut Row<'a, '_>, code: u16, dataset: &'a [u8]) -> PtpFormData<'a> {
+fn form<'a>(row: &mut Row<'a, '_>, layout: PropLayout, code: u16, dataset: &'a [u8]) -> PtpFormData<'a> {
     match row.word() {
         1 => PtpFormData::Range {
             minValue: PtpValue::new(code, row.part()),
             maxValue: PtpValue::new(code, row.part()),
             step: PtpValue::new(code, row.part()),
         },
-        2 => PtpFormData::Enumeration { array: PtpValues { dataset, code, bytes: row.part(), count: row.size() } },
+        2 => PtpFormData::Enumeration { array: PtpValues { layout, dataset, code, bytes: row.part(), count: row.size() } },
         _ => PtpFormData::None,
     }
 }
@@ -70,6 +94,7 @@ fn form<'a>(row: &mut Row<'a, '_>, code: u16, dataset: &'a [u8]) -> PtpFormData<
 /// The values of a property's list, as they lie in the description.
 #[derive(Clone, Copy)]
 pub struct PtpValues<'a> {
+    layout: PropLayout,
     dataset: &'a [u8],
     code: u16,
     bytes: &'a [u8],
@@ -88,7 +113,7 @@ impl<'a> PtpValues<'a> {
 
     /// Value `n`, from 0. It reads the description from its start; for all values ask [`iter`](Self::iter). Refusal: PLACE.
     pub fn nth(&self, n: usize) -> Result<PtpValue<'a>, Refusal> {
-        let [_, start, length] = archive::list_value(self.dataset, n)?.map(|number| number as usize);
+        let [_, start, length] = archive::list_value(self.layout.is_book(), self.dataset, n)?.map(|number| number as usize);
         Ok(PtpValue::new(self.code, &self.dataset[start..start + length]))
     }
 
@@ -165,8 +190,9 @@ impl<'a> Newer<'a> {
 
 /// The whole payload where it is exactly one value of the description's type, else the bytes of the description's current value.
 /// An empty part of the description where that is refused. It refuses nothing itself.
-pub fn newer_value<'a>(description: &'a [u8], payload: &'a [u8]) -> Newer<'a> {
-    let [of_payload, start, length] = archive::newer_value(description, payload).expect("its only refusal is ROOM");
+pub fn newer_value<'a>(layout: PropLayout, description: &'a [u8], payload: &'a [u8]) -> Newer<'a> {
+    let [of_payload, start, length] =
+        archive::newer_value(layout.is_book(), description, payload).expect("its only refusal is ROOM");
     let (start, end) = (start as usize, (start + length) as usize);
     if of_payload == 1 {
         Newer::Payload(&payload[start..end])
@@ -177,7 +203,7 @@ pub fn newer_value<'a>(description: &'a [u8], payload: &'a [u8]) -> Newer<'a> {
 
 /// The tidy spelling of the description that begins these bytes, at the front of the output: the part that was written.
 /// Refusals: those of reading it, then ROOM.
-pub fn tidy_property<'o>(s: &[u8], out: &'o mut [u8]) -> Result<&'o [u8], Refusal> {
-    let count = archive::tidy_property(s, out)?;
+pub fn tidy_property<'o>(layout: PropLayout, s: &[u8], out: &'o mut [u8]) -> Result<&'o [u8], Refusal> {
+    let count = archive::tidy_property(layout.is_book(), s, out)?;
     Ok(&out[..count])
 }

@@ -1,6 +1,7 @@
 //! Commands of a session, and the search for an answer.
 use crate::archive;
 use crate::dataset::Row;
+use crate::property::PropLayout;
 use crate::refusal::Refusal;
 
 /// The commands that are spoken of here, by their names in ptp 0.5.0.
@@ -83,10 +84,17 @@ impl Session {
     }
 
     /// SetDevicePropValue of a value that a property's description allows, with the value's tidy spelling as its data. `code` is the value's
-    /// type; the description begins its bytes. Refusals: END and TEXT of the description; TYPE; END, TEXT and TRAIL of the value, which must fill
+    /// type; the description, of the layout that is named, begins its bytes. Refusals: END and TEXT of the description; TYPE; END, TEXT and TRAIL of the value, which must fill
     /// its bytes; VALUE where the description's form does not allow it; COUNT, ROOM.
-    pub fn set_value<'o>(&mut self, description: &[u8], code: u16, value: &[u8], out: &'o mut [u8]) -> Result<Made<'o>, Refusal> {
-        let count = archive::set_value(&mut self.number, description, code, value, out)?;
+    pub fn set_value<'o>(
+        &mut self,
+        layout: PropLayout,
+        description: &[u8],
+        code: u16,
+        value: &[u8],
+        out: &'o mut [u8],
+    ) -> Result<Made<'o>, Refusal> {
+        let count = archive::set_value(layout.is_book(), &mut self.number, description, code, value, out)?;
         Ok(Made::of(&out[..count]))
     }
 

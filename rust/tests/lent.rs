@@ -1,5 +1,7 @@
 //! What is lent: a refusal leaves it as it was, the exact need suffices, and nothing past what was given is touched.
-use ptp_proved::{newer_value, tidy_property, Newer, ObjectTable, PtpDataType, PtpFormData, PtpPropInfo, Refusal, Session};
+use ptp_proved::{
+    newer_value, tidy_property, Newer, ObjectTable, PropLayout, PtpDataType, PtpFormData, PtpPropInfo, Refusal, Session,
+};
 
 const KEPT: u8 = 0xA5;
 
@@ -20,12 +22,12 @@ const TABLE: ObjectTable = ObjectTable {
 fn tidy_needs_its_exact_room() {
     for room in 0..TIDY.len() {
         let mut out = [KEPT; 32];
-        assert_eq!(tidy_property(&LIST, &mut out[..room]), Err(Refusal::ROOM));
+        assert_eq!(tidy_property(PropLayout::Crate, &LIST, &mut out[..room]), Err(Refusal::ROOM));
         assert_eq!(out, [KEPT; 32]);
     }
     for room in [TIDY.len(), 32] {
         let mut out = [KEPT; 32];
-        assert_eq!(tidy_property(&LIST, &mut out[..room]), Ok(&TIDY[..]));
+        assert_eq!(tidy_property(PropLayout::Crate, &LIST, &mut out[..room]), Ok(&TIDY[..]));
         assert_eq!(out[TIDY.len()..], [KEPT; 32][TIDY.len()..]);
     }
 }
@@ -37,7 +39,7 @@ fn tidy_refused_by_its_reading_writes_nothing() {
     for cut in 0..LIST.len() {
         let mut out = [KEPT; 32];
         let at = FIELDS.into_iter().rev().find(|&field| field <= cut).unwrap();
-        assert_eq!(tidy_property(&LIST[..cut], &mut out), Err(Refusal::END { at }));
+        assert_eq!(tidy_property(PropLayout::Crate, &LIST[..cut], &mut out), Err(Refusal::END { at }));
         assert_eq!(out, [KEPT; 32]);
     }
 }
@@ -91,11 +93,11 @@ fn only_an_allowed_value_is_set() {
         (2, &[5], 28, Refusal::ROOM),
     ] {
         let (mut session, mut out) = (Session::at(7), [KEPT; 64]);
-        assert_eq!(session.set_value(&RANGE, code, value, &mut out[..room]), Err(why));
+        assert_eq!(session.set_value(PropLayout::Crate, &RANGE, code, value, &mut out[..room]), Err(why));
         assert_eq!((session.number(), out), (7, [KEPT; 64]));
     }
     let (mut session, mut out) = (Session::at(7), [KEPT; 32]);
-    let made = session.set_value(&RANGE, 2, &[5], &mut out).unwrap();
+    let made = session.set_value(PropLayout::Crate, &RANGE, 2, &[5], &mut out).unwrap();
     assert_eq!((made.number, made.bytes.len(), made.bytes[28]), (7, 29, 5));
     assert_eq!((session.number(), &out[29..]), (8, &[KEPT; 3][..]));
 }
@@ -144,21 +146,21 @@ fn refused_table_writes_nothing() {
 
 #[test]
 fn an_index_past_the_list_is_refused() {
-    let (info, taken) = PtpPropInfo::decode(&LIST).unwrap();
+    let (info, taken) = PtpPropInfo::decode(PropLayout::Crate, &LIST).unwrap();
     let PtpFormData::Enumeration { array } = info.Form else { panic!("a list is a list") };
     assert_eq!((taken, array.len()), (19, 2));
     assert_eq!(array.nth(1).unwrap().bytes(), b"\x02A\0\0\0");
     for n in [2, 3, usize::MAX] {
         assert_eq!(array.nth(n), Err(Refusal::PLACE));
-        assert_eq!(PtpPropInfo::nth(&LIST, n), Err(Refusal::PLACE));
+        assert_eq!(PtpPropInfo::nth(PropLayout::Crate, &LIST, n), Err(Refusal::PLACE));
     }
-    assert_eq!(PtpPropInfo::nth(&RANGE, 0), Err(Refusal::PLACE));
-    assert_eq!(PtpPropInfo::nth(&RANGE[..11], 0), Err(Refusal::END { at: 11 }));
+    assert_eq!(PtpPropInfo::nth(PropLayout::Crate, &RANGE, 0), Err(Refusal::PLACE));
+    assert_eq!(PtpPropInfo::nth(PropLayout::Crate, &RANGE[..11], 0), Err(Refusal::END { at: 11 }));
 }
 
 #[test]
 fn a_list_of_values_without_bytes_has_them_all() {
-    let (info, taken) = PtpPropInfo::decode(b"\x01\x50\0\0\0\0\x02\xFF\xFF").unwrap();
+    let (info, taken) = PtpPropInfo::decode(PropLayout::Crate, b"\x01\x50\0\0\0\0\x02\xFF\xFF").unwrap();
     let PtpFormData::Enumeration { array } = info.Form else { panic!("a list is a list") };
     assert_eq!(
         (taken, array.len(), array.iter().map(|value| value.view()).filter(|view| *view == PtpDataType::UNDEF).count()),
@@ -170,16 +172,43 @@ fn a_list_of_values_without_bytes_has_them_all() {
 
 #[test]
 fn values_are_equal_by_what_they_say() {
-    let (info, _) = PtpPropInfo::decode(&LIST).unwrap();
+    let (info, _) = PtpPropInfo::decode(PropLayout::Crate, &LIST).unwrap();
     assert_eq!(info.Current, info.FactoryDefault);
     assert_ne!(info.Current.bytes(), info.FactoryDefault.bytes());
-    assert_ne!(info.Current, PtpPropInfo::nth(&LIST, 1).unwrap());
+    assert_ne!(info.Current, PtpPropInfo::nth(PropLayout::Crate, &LIST, 1).unwrap());
 }
 
 #[test]
 fn the_newer_value_is_a_part_of_one_of_the_two() {
-    assert_eq!(newer_value(&RANGE, &[75]), Newer::Payload(&[75]));
-    assert_eq!(newer_value(&RANGE, &[75, 0]), Newer::Description(&[50]));
-    assert_eq!(newer_value(&RANGE[..2], &[75]), Newer::Description(&[]));
-    assert_eq!(newer_value(&RANGE, &[75]).bytes(), [75]);
+    assert_eq!(newer_value(PropLayout::Crate, &RANGE, &[75]), Newer::Payload(&[75]));
+    assert_eq!(newer_value(PropLayout::Crate, &RANGE, &[75, 0]), Newer::Description(&[50]));
+    assert_eq!(newer_value(PropLayout::Crate, &RANGE[..2], &[75]), Newer::Description(&[]));
+    assert_eq!(newer_value(PropLayout::Crate, &RANGE, &[75]).bytes(), [75]);
+}
+
+// The range without its `IsEnable` byte; and bytes that fit both layouts.
+const BOOK_RANGE: [u8; 11] = *b"\x01\x50\x02\x00\x00\x64\x32\x01\x00\x64\x01";
+const EITHER: [u8; 9] = *b"\x01\x50\x02\x00\x00\x01\x64\x00\x00";
+
+#[test]
+fn a_description_is_read_by_the_layout_that_was_named() {
+    let (crates, taken) = PtpPropInfo::decode(PropLayout::Crate, &RANGE).unwrap();
+    let (books, book_taken) = PtpPropInfo::decode(PropLayout::Book, &BOOK_RANGE).unwrap();
+    assert_eq!((crates.IsEnable, books.IsEnable), (Some(1), None));
+    assert_eq!((taken, book_taken), (12, 11));
+    assert_eq!((crates.FactoryDefault, crates.Current, crates.Form), (books.FactoryDefault, books.Current, books.Form));
+    let (crates, _) = PtpPropInfo::decode(PropLayout::Crate, &EITHER).unwrap();
+    let (books, _) = PtpPropInfo::decode(PropLayout::Book, &EITHER).unwrap();
+    assert_eq!((crates.Current.bytes(), books.Current.bytes()), (&[0][..], &[100][..]));
+}
+
+#[test]
+fn the_book_has_its_own_places() {
+    for cut in 5..BOOK_RANGE.len() {
+        let why = PtpPropInfo::decode(PropLayout::Book, &BOOK_RANGE[..cut]).unwrap_err();
+        assert_eq!(why, Refusal::END { at: cut });
+    }
+    let mut out = [KEPT; 16];
+    assert_eq!(tidy_property(PropLayout::Book, &BOOK_RANGE, &mut out), Ok(&BOOK_RANGE[..]));
+    assert_eq!(newer_value(PropLayout::Book, &BOOK_RANGE, &[75, 0]), Newer::Description(&[50]));
 }

@@ -2,6 +2,7 @@
 -- Assumes nothing.
 use mathlib.Core.Bool.{Bool, true, false}
 use mathlib.Core.List.{List, [], _∷_, _++_}
+use mathlib.Core.Option.{Option, some, none}
 use Prim.Native.Nat.{ℕ}
 use Rattle.recording.specs.Content.{Content, Record}
 use Rattle.recording.specs.Content as content
@@ -11,6 +12,8 @@ use Rattle.wire.specs.Places.{Located, number-is, items, units, empty}
 use Rattle.wire.specs.declared.later.Chosen.{Chosen}
 use Rattle.wire.specs.Description.{Form, PropInfo}
 use Rattle.wire.specs.Description as form
+use Rattle.wire.specs.declared.property.PropLayout.{PropLayout}
+use Rattle.wire.specs.declared.property.PropLayout.the-variants as layouts
 use Rattle.wire.specs.declared.property.Slot.{Slot}
 
 -- ── the datasets, field by field ──
@@ -34,12 +37,22 @@ formRow form.absent = 0 ∷ 0 ∷ 0 ∷ 0 ∷ 0 ∷ 0 ∷ 0 ∷ []
 formRow (form.range a b c) = 1 ∷ a .start ∷ a .len ∷ b .start ∷ b .len ∷ c .start ∷ c .len ∷ []
 formRow (form.list p n) = 2 ∷ p .start ∷ p .len ∷ n ∷ 0 ∷ 0 ∷ 0 ∷ []
 
+-- the layout that the caller names: the book's, or the crate's
+abbrev pub layoutOf : Bool → PropLayout
+layoutOf true = layouts.Book
+layoutOf false = layouts.Crate
+
+-- the `IsEnable` byte; 256, which no byte is, where it is absent
+abbrev pub enableNumber : Option ℕ → ℕ
+enableNumber (some n) = n
+enableNumber none = 256
+
 abbrev pub propRow : PropInfo → List ℕ
 propRow x =
     x .«property_code»
     ∷ x .«data_type»
     ∷ x .«get_set»
-    ∷ x .«is_enable»
+    ∷ enableNumber (x .«is_enable»)
     ∷ x .«factory_default» .start ∷ x .«factory_default» .len
     ∷ x .current .start ∷ x .current .len
     ∷ formRow (x .form)

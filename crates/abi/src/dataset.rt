@@ -6,17 +6,19 @@ ghost use Rattle.wire.specs.Device.{deviceFields};
 ghost use Rattle.wire.specs.Layout.{device, object, storage};
 ghost use Rattle.wire.specs.Object.{objectFields};
 ghost use Rattle.wire.specs.Places.{rowAt};
-ghost use Rattle.wire.specs.Property.{propertyAt, saysForm, infoFrom};
+ghost use Rattle.wire.specs.Property.{propertyAt, hasEnable, saysEnable, saysForm, infoFrom};
 ghost use Rattle.wire.specs.Storage.{storageFields};
 ghost use Rattle.abi.specs.Answered.{Gives, given};
-ghost use Rattle.abi.specs.Rows.{fieldsRow, formRow, propRow};
+ghost use Rattle.abi.specs.Rows.{layoutOf, enableNumber, fieldsRow, formRow, propRow};
 use crate::answer;
 use layout::Written;
 use wire::Cursor;
 use wire::DeviceInfo;
+use wire::Enable;
 use wire::Form;
 use wire::ObjectInfo;
 use wire::PropInfo;
+use wire::PropLayout;
 use wire::ReadDevice;
 use wire::ReadObject;
 use wire::ReadProperty;
@@ -171,9 +173,21 @@ fn form_row(f: Form) -> [u64; 7]
     }
 }
 
+// 256 where the byte is absent: no byte is 256.
+fn enable_number(e: Enable) -> u64
+    ensures { λ r. ⌜ r ≡ enableNumber (saysEnable e) ⌝ }
+{
+    match e {
+        Enable::There(b) => b as u64,
+        Enable::Absent => 256,
+    }
+}
+
 fn prop_row(x: PropInfo, len: usize) -> [u64; 16]
     ensures { λ r. ⌜ r ≡ len ∷ propRow (infoFrom x) ⌝ }
 {
+    let enable = x.is_enable;
+    let e = enable_number(enable);
     let form = x.form;
     let f = form_row(form);
     [
@@ -181,7 +195,7 @@ fn prop_row(x: PropInfo, len: usize) -> [u64; 16]
         x.property_code as u64,
         x.data_type as u64,
         x.get_set as u64,
-        x.is_enable as u64,
+        e,
         x.factory_default.start as u64,
         x.factory_default.len as u64,
         x.current.start as u64,
@@ -196,18 +210,29 @@ fn prop_row(x: PropInfo, len: usize) -> [u64; 16]
     ]
 }
 
-fn give_prop(s: &[u8], out: &mut [u64]) -> Written
-    ensures { λ r. ⌜ Wrote (given propRow (propertyAt (now (s .entry)) 0)) (now (out .entry)) (saysWritten r) (now (out .exit)) ⌝ }
+// The layout that the caller names.
+pub(crate) fn named(book: bool) -> PropLayout
+    ensures { λ r. ⌜ r ≡ layoutOf book ⌝ }
 {
-    match wire::property_info(s, Cursor { at: 0 }) {
+    if book {
+        PropLayout::Book
+    } else {
+        PropLayout::Crate
+    }
+}
+
+fn give_prop(l: PropLayout, s: &[u8], out: &mut [u64]) -> Written
+    ensures { λ r. ⌜ Wrote (given propRow (propertyAt (hasEnable l) (now (s .entry)) 0)) (now (out .entry)) (saysWritten r) (now (out .exit)) ⌝ }
+{
+    match wire::property_info(l, s, Cursor { at: 0 }) {
         ReadProperty::Got(x, next) => answer::give(&prop_row(x, next.at), out),
         ReadProperty::Refused(f) => Written::Refused(f),
     }
 }
 
 #[no_mangle]
-pub extern "C" fn ptp_prop_info(s: &[u8], out: &mut [u64]) -> u64
-    ensures { λ r. ⌜ Gives (given propRow (propertyAt (now (s .entry)) 0)) (now (out .entry)) r (now (out .exit)) ⌝ }
+pub extern "C" fn ptp_prop_info(book: bool, s: &[u8], out: &mut [u64]) -> u64
+    ensures { λ r. ⌜ Gives (given propRow (propertyAt (hasEnable (layoutOf book)) (now (s .entry)) 0)) (now (out .entry)) r (now (out .exit)) ⌝ }
 {
-    answer::told(give_prop(s, out))
+    answer::told(give_prop(named(book), s, out))
 }

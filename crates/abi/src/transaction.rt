@@ -4,11 +4,13 @@ ghost use Rattle.layout.specs.Written.{Wrote, saysWritten};
 ghost use Rattle.session.specs.Calls.{commandOf};
 ghost use Rattle.session.specs.Search.{answerIn};
 ghost use Rattle.session.specs.Transaction.{Makes, saysMade};
+ghost use Rattle.wire.specs.Property.{hasEnable};
 ghost use Rattle.panel.specs.Panel.{panelSaid};
 ghost use Rattle.abi.specs.Answered.{word, Tells, Gives, given};
-ghost use Rattle.abi.specs.Rows.{replyRow};
+ghost use Rattle.abi.specs.Rows.{layoutOf, replyRow};
 ghost use Rattle.abi.specs.Sent.{commandDue, sessionAt, numberAfter, Sent};
 use crate::answer;
+use crate::dataset;
 use layout::Written;
 use session::Found;
 use session::Made;
@@ -79,18 +81,19 @@ pub extern "C" fn ptp_command(
 // SetDevicePropValue of a value that the description allows, with its data behind it; `number` as `ptp_command` has it.
 #[no_mangle]
 pub extern "C" fn ptp_set_value(
+    book: bool,
     number: &mut u32,
     description: &[u8],
     code: u16,
     value: &[u8],
     out: &mut [u8],
 ) -> u64
-    ensures { λ r. ⌜ Tells (Sent (now (number .entry)) 0x1016 (panelSaid (now (description .entry)) code (now (value .entry))) (now (out .entry)) (now (number .exit)) (now (out .exit))) r ⌝ }
+    ensures { λ r. ⌜ Tells (Sent (now (number .entry)) 0x1016 (panelSaid (hasEnable (layoutOf book)) (now (description .entry)) code (now (value .entry))) (now (out .entry)) (now (number .exit)) (now (out .exit))) r ⌝ }
 {
     let session = Session { number: *number };
     let s = spoken(
         *number,
-        panel::set_value(session, description, code, value, out),
+        panel::set_value(dataset::named(book), session, description, code, value, out),
     );
     *number = s.number;
     s.word

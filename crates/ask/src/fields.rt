@@ -1,6 +1,7 @@
 // The fields of the datasets as pieces.
 use crate::show;
 use wire::DeviceInfo;
+use wire::Enable;
 use wire::Form;
 use wire::ObjectInfo;
 use wire::PropInfo;
@@ -70,13 +71,22 @@ fn form(t: Told, code: u16, f: Form) -> Told {
     }
 }
 
+// A byte, or `-` where the layout has none.
+fn enable(t: Told, e: Enable) -> Told {
+    match e {
+        Enable::There(b) => t.number(b as u64),
+        Enable::Absent => t.word(b"-"),
+    }
+}
+
 pub fn property(t: Told, d: PropInfo) -> Told {
     let code = d.data_type;
+    let enabled = d.is_enable;
     let shape = d.form;
     let mut r = t.number(d.property_code as u64);
     r = r.number(code as u64);
     r = r.number(d.get_set as u64);
-    r = r.number(d.is_enable as u64);
+    r = enable(r, enabled);
     r = show::slot(r, code, d.factory_default, 1);
     r = show::slot(r, code, d.current, 1);
     form(r, code, shape)

@@ -1,18 +1,20 @@
 // A description's list, by the struct that the library hands out: it is stepped through to its end.
 ghost use mathlib.Core.Path.{_≡_};
 ghost use Rattle.wire.specs.List.{placeOf, stepAt, saysStep};
+ghost use Rattle.wire.specs.Property.{hasEnable};
 use crate::show;
 use wire::Place;
+use wire::PropLayout;
 use wire::Step;
 use wire::Values;
 use words::told;
 use words::told::Told;
 
 // The step from the list's beginning.
-fn first(src: &[u8]) -> Step
-    ensures { λ r. ⌜ saysStep r ≡ stepAt (now (src .entry)) (placeOf (now (src .entry)) .ty) (placeOf (now (src .entry)) .at) (placeOf (now (src .entry)) .left) (placeOf (now (src .entry)) .refusal) ⌝ }
+fn first(l: PropLayout, src: &[u8]) -> Step
+    ensures { λ r. ⌜ saysStep r ≡ stepAt (now (src .entry)) (placeOf (hasEnable l) (now (src .entry)) .ty) (placeOf (hasEnable l) (now (src .entry)) .at) (placeOf (hasEnable l) (now (src .entry)) .left) (placeOf (hasEnable l) (now (src .entry)) .refusal) ⌝ }
 {
-    wire::next(wire::list_of(src))
+    wire::next(wire::list_of(l, src))
 }
 
 // The step from where the one before it ended.
@@ -33,8 +35,8 @@ fn later(src: &[u8], ty: u16, at: usize, left: u16, refusal: u8) -> Step
 }
 
 // How many steps there are before the end: no list has more than 65,535 values.
-fn steps(src: &[u8], ty: u16, refusal: u8) -> u64 {
-    let mut step = first(src);
+fn steps(l: PropLayout, src: &[u8], ty: u16, refusal: u8) -> u64 {
+    let mut step = first(l, src);
     let mut n: u64 = 0;
     while n < 65536 {
         match step {
@@ -48,8 +50,15 @@ fn steps(src: &[u8], ty: u16, refusal: u8) -> u64 {
     n
 }
 
-fn print_steps(src: &[u8], ty: u16, refusal: u8, text: &mut [u8], to: usize) -> usize {
-    let mut step = first(src);
+fn print_steps(
+    l: PropLayout,
+    src: &[u8],
+    ty: u16,
+    refusal: u8,
+    text: &mut [u8],
+    to: usize,
+) -> usize {
+    let mut step = first(l, src);
     let mut o = to;
     let mut n: u64 = 0;
     while n < 65536 {
@@ -74,9 +83,9 @@ fn head(p: Place, steps: u64) -> Told {
     t.number(steps)
 }
 
-pub fn answer(src: &[u8], text: &mut [u8], at: usize) -> usize {
-    let p = wire::place_of(src);
-    let n = steps(src, p.ty, p.refusal);
+pub fn answer(l: PropLayout, src: &[u8], text: &mut [u8], at: usize) -> usize {
+    let p = wire::place_of(l, src);
+    let n = steps(l, src, p.ty, p.refusal);
     let o = show::tell(text, at, src, head(p, n));
-    print_steps(src, p.ty, p.refusal, text, o)
+    print_steps(l, src, p.ty, p.refusal, text, o)
 }

@@ -1,6 +1,7 @@
 // The questions whose answers have no bound: their text is put as it comes.
 use crate::list;
 use crate::listed;
+use crate::reads;
 use crate::show;
 use layout::Written;
 use wire::Chosen;
@@ -34,10 +35,11 @@ fn chosen(c: Chosen) -> Told {
 }
 
 fn newer(a: Args, line: &[u8], text: &mut [u8], at: usize) -> usize {
-    let d = slice::counted(line, a.numbers[0], a.counts[0]);
-    let p = slice::counted(line, a.numbers[1], a.counts[1]);
-    let o = show::tell(text, at, d, chosen(wire::newer_place(d, p)));
-    print::output(text, o, wire::newer(d, p))
+    let l = reads::layout(a);
+    let d = slice::counted(line, a.numbers[1], a.counts[1]);
+    let p = slice::counted(line, a.numbers[2], a.counts[2]);
+    let o = show::tell(text, at, d, chosen(wire::newer_place(l, d, p)));
+    print::output(text, o, wire::newer(l, d, p))
 }
 
 // A table's objects are at most so many.
@@ -103,7 +105,7 @@ pub fn of(
     at: usize,
 ) -> usize {
     match arm {
-        b'l' => list::answer(src, text, at),
+        b'l' => list::answer(reads::layout(a), src, text, at),
         b'n' => newer(a, line, text, at),
         b'w' => walk(a, src, halves, numbers, text, at),
         b'p' => paths(a, src, halves, numbers, text, at),

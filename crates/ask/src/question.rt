@@ -10,7 +10,7 @@ pub const READS: u8 = b'r';
 
 pub const WRITES: u8 = b'w';
 
-const TABLE: [u8; 664] = *b"\
+const TABLE: [u8; 670] = *b"\
     response-name rR 2;\
     command-name rC 2;\
     value rv 28b;\
@@ -25,21 +25,21 @@ const TABLE: [u8; 664] = *b"\
     device rd b;\
     object ro b;\
     storage rs b;\
-    property rp b;\
+    property rp lb;\
     tidy-device wD br;\
     tidy-object wO br;\
     tidy-storage wS br;\
-    tidy-property wP br;\
-    nth rn 8b;\
-    list ll b;\
+    tidy-property wP lbr;\
+    nth rn l8b;\
+    list ll lb;\
     step rt b2821;\
-    newer ln bb;\
+    newer ln lbb;\
     header rh b;\
     container rc b;\
     write-container wc 224br;\
     command wm 42nr;\
     command-data wd 42nbr;\
-    panel wn 4b2br;\
+    panel wn l4b2br;\
     call wC w4444r;\
     answer ra 4b;\
     handles rH b;\

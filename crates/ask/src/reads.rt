@@ -5,6 +5,7 @@ use names::Name;
 use recording::ReadRecord;
 use session::Found;
 use wire::Cursor;
+use wire::PropLayout;
 use wire::ReadContainer;
 use wire::ReadDevice;
 use wire::ReadHeader;
@@ -88,16 +89,25 @@ fn storage(src: &[u8]) -> Told {
     }
 }
 
-fn property(src: &[u8]) -> Told {
-    match wire::property_info(src, Cursor { at: 0 }) {
+// The layout that the question names, by its first word.
+pub fn layout(a: Args) -> PropLayout {
+    if a.numbers[0] == 1 {
+        PropLayout::Book
+    } else {
+        PropLayout::Crate
+    }
+}
+
+fn property(a: Args, src: &[u8]) -> Told {
+    match wire::property_info(layout(a), src, Cursor { at: 0 }) {
         ReadProperty::Got(d, next) => fields::property(taken(next), d),
         ReadProperty::Refused(f) => told::refused(f),
     }
 }
 
 fn nth(a: Args, src: &[u8]) -> Told {
-    let list = wire::place_of(src);
-    match wire::nth(src, a.numbers[0]) {
+    let list = wire::place_of(layout(a), src);
+    match wire::nth(layout(a), src, a.numbers[1]) {
         ReadNth::Got(v, slot, _) => {
             show::value(told::ok(), list.ty, v).span(slot.start, slot.len)
         }
@@ -218,7 +228,7 @@ pub fn of(arm: u8, a: Args, src: &[u8]) -> Told {
         b'd' => device(src),
         b'o' => object(src),
         b's' => storage(src),
-        b'p' => property(src),
+        b'p' => property(a, src),
         b'n' => nth(a, src),
         b't' => step(a, src),
         b'h' => header(src),

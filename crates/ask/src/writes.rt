@@ -1,6 +1,7 @@
 // The questions that write: words, bytes and lists in, the output filled and lent, pieces out.
 use crate::integer;
 use crate::integer::Given;
+use crate::reads;
 use session::Made;
 use session::Session;
 use wire::Command;
@@ -127,9 +128,10 @@ fn call(a: Args, w: &[u8], page: &mut [u8]) -> Told {
 // Of the two words that are bytes the description comes first.
 fn set_value(a: Args, line: &[u8], src: &[u8], page: &mut [u8]) -> Told {
     made(panel::set_value(
-        state(a.numbers[0]),
-        slice::counted(line, a.numbers[1], a.counts[1]),
-        low16(a.numbers[2]),
+        reads::layout(a),
+        state(a.numbers[1]),
+        slice::counted(line, a.numbers[2], a.counts[2]),
+        low16(a.numbers[3]),
         src,
         page,
     ))
@@ -145,7 +147,7 @@ fn of_bytes(arm: u8, a: Args, src: &[u8], page: &mut [u8]) -> Told {
         b'D' => told::written(wire::tidy_device(src, page)),
         b'O' => told::written(wire::tidy_object(src, page)),
         b'S' => told::written(wire::tidy_storage(src, page)),
-        b'P' => told::written(wire::tidy_property(src, page)),
+        b'P' => told::written(wire::tidy_property(reads::layout(a), src, page)),
         b'c' => told::written(wire::write_container(
             n,
             low16(a.numbers[1]),

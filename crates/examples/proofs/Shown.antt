@@ -7,7 +7,7 @@ use Rattle.layout.specs.Answer.{after, means, located, ofField, endAt, badText,
 use Rattle.layout.specs.Bytes.{bytes, number, cells}
 use Rattle.wire.specs.Layout.{signed, pairs}
 use Rattle.wire.specs.Places.{unitsAt, textAt, arrayAt, shapeAt}
-use Rattle.wire.specs.Property.{valuesAt, rangeAt, listAt, formAt, propertyAt}
+use Rattle.wire.specs.Property.{valuesAt, rangeAt, listAt, formAt, enableAt, propertyAt}
 use Rattle.wire.specs.Container.{isKind, headerRest, headerAt, containerWord, containerSaid, paramBytes, commandSaid}
 use Rattle.wire.specs.Utf8.{points, encoded, encodedAll, utf8, utf8At}
 use Rattle.tree.specs.Table.{keptFrom, risesFrom, tableOk, nameAt, namesFrom, tableAt}
@@ -18,7 +18,7 @@ use Rattle.tree.proofs.laws.Ways.{one-walk}
 use Rattle.examples.specs.Table.{Example, shown, examples, objects}
 
 pub all-right : map (λ (e : Example). shown (e .given)) examples ≡ map (λ (e : Example). e .seen) examples
-unfolding after means located ofField endAt badText bare spanAt fieldAt bytes number cells signed pairs unitsAt textAt arrayAt shapeAt valuesAt rangeAt listAt formAt propertyAt isKind headerRest headerAt containerWord containerSaid paramBytes commandSaid points encoded encodedAll utf8 utf8At keptFrom risesFrom tableOk nameAt namesFrom tableAt climbed fromRoot way depth nameOf pathOf pathSaid
+unfolding after means located ofField endAt badText bare spanAt fieldAt bytes number cells signed pairs unitsAt textAt arrayAt shapeAt valuesAt rangeAt listAt formAt enableAt propertyAt isKind headerRest headerAt containerWord containerSaid paramBytes commandSaid points encoded encodedAll utf8 utf8At keptFrom risesFrom tableOk nameAt namesFrom tableAt climbed fromRoot way depth nameOf pathOf pathSaid
 all-right = refl
 
 -- the refusals of N7 and N10 by their numbers

@@ -2,6 +2,7 @@
 -- Assumes nothing.
 use mathlib.Core.Bool.{Bool, true}
 use mathlib.Core.List.{List, [], _∷_}
+use mathlib.Core.Option.{some}
 use Prim.Native.Nat.{ℕ}
 use lib.IntN.{negsuc}
 use lib.ListN.{replicate}
@@ -10,7 +11,9 @@ use Rattle.layout.specs.Written.{Said, says, wordAt}
 use Rattle.wire.specs.Layout.{UINT16, AUINT16, STR, shape, Val, num, nums, str, nil, int, nat, pair, Reading, range, list}
 use Rattle.wire.specs.Codecs.{value}
 use Rattle.wire.specs.Places.{valueAt, shapeIn}
-use Rattle.wire.specs.Property.{propertyAt, propertyIn}
+use Rattle.wire.specs.Property.{propertyAt, propertyIn, hasEnable}
+use Rattle.wire.specs.declared.property.PropLayout.{PropLayout}
+use Rattle.wire.specs.declared.property.PropLayout.the-variants as layouts
 use Rattle.wire.specs.Container.{headerAt, commandSaid}
 use Rattle.wire.specs.Utf8.{utf8At}
 use Rattle.wire.specs.declared.container.Header.{Header}
@@ -23,9 +26,10 @@ use Rattle.tree.proofs.laws.Tested.{walkTest}
 
 -- what is given
 pub data Given : Type 0 where
-  -- a value of a type; a string in UTF-8; a property's description; a container's header
+  -- a value of a type; a property's description by a layout; a string in UTF-8; a container's header
   a-value : ℕ → List ℕ → Given
-  a-text a-property a-header : List ℕ → Given
+  a-property : PropLayout → List ℕ → Given
+  a-text a-header : List ℕ → Given
   -- a command with a transaction number; a tree with an order of its places, and one of them
   a-command : Command → ℕ → Given
   a-tree : Table → List ℕ → ℕ → Given
@@ -44,7 +48,7 @@ pub data Seen : Type 0 where
 abbrev pub shown : Given → Seen
 shown (a-value t s) = reads (means (shapeIn (shape t) s) (valueAt t s 0)) (wordAt (value t) s 0)
 shown (a-text s) = encodes (utf8At s 0)
-shown (a-property s) = describes (means (propertyIn s) (propertyAt s 0))
+shown (a-property l s) = describes (means (propertyIn s) (propertyAt (hasEnable l) s 0))
 shown (a-header s) = heads (headerAt s 0)
 shown (a-command c n) = spells (commandSaid c n)
 shown (a-tree t order place) = walks (walkTest (t .parents) order) (pathSaid t place)
@@ -80,7 +84,7 @@ n11-reading = record {
   code = 0x5001;
   type = 2;
   getset = 0;
-  enable = 1;
+  enable = some 1;
   default = num (nat 100);
   current = num (nat 50);
   form = range (num (nat 0)) (num (nat 100)) (num (nat 1));
@@ -95,7 +99,7 @@ n12-reading = record {
   code = 0xD005;
   type = STR;
   getset = 1;
-  enable = 1;
+  enable = some 1;
   default = str [];
   current = str [];
   form = list (str [] ∷ str (0x41 ∷ []) ∷ []);
@@ -106,7 +110,7 @@ abbrev pub n13 : List ℕ
 n13 = 1 ∷ 0x50 ∷ 0 ∷ 0 ∷ 0 ∷ 0 ∷ 2 ∷ 0xFF ∷ 0xFF ∷ []
 
 abbrev pub n13-reading : Reading
-n13-reading = record { code = 0x5001; type = 0; getset = 0; enable = 0; default = nil; current = nil; form = list (replicate 65535 nil) }
+n13-reading = record { code = 0x5001; type = 0; getset = 0; enable = some 0; default = nil; current = nil; form = list (replicate 65535 nil) }
 
 -- four objects: names empty, A, B, C
 abbrev pub objects : Table
@@ -133,9 +137,9 @@ examples =
     ∷ whole AUINT16 (2 ∷ 0 ∷ 0 ∷ 0 ∷ 5 ∷ 0 ∷ 6 ∷ 0 ∷ []) (nums (nat 5 ∷ nat 6 ∷ [])) 8
     ∷ example (a-value 0x4002 (0xFF ∷ 0xFF ∷ 0xFF ∷ 0xFF ∷ [])) (reads (refused (endAt 0)) (refused (endAt 0)))
     -- N11 to N13 properties
-    ∷ example (a-property n11) (describes (got n11-reading 12))
-    ∷ example (a-property n12) (describes (got n12-reading 17))
-    ∷ example (a-property n13) (describes (got n13-reading 9))
+    ∷ example (a-property layouts.Crate n11) (describes (got n11-reading 12))
+    ∷ example (a-property layouts.Crate n12) (describes (got n12-reading 17))
+    ∷ example (a-property layouts.Crate n13) (describes (got n13-reading 9))
     -- N14 Response Ok numbered 7, N15 OpenSession from a fresh session, numbered 0
     ∷ example (a-header (0x0C ∷ 0 ∷ 0 ∷ 0 ∷ 3 ∷ 0 ∷ 1 ∷ 0x20 ∷ 7 ∷ 0 ∷ 0 ∷ 0 ∷ [])) (heads (got (record { kind = 3; code = 0x2001; number = 7; «payload_len» = 0 }) 12))
     ∷ example (a-command openSession (freshSession .number)) (spells (says (0x18 ∷ 0 ∷ 0 ∷ 0 ∷ 1 ∷ 0 ∷ 2 ∷ 0x10 ∷ 0 ∷ 0 ∷ 0 ∷ 0 ∷ 3 ∷ zeros 11)))

@@ -14,7 +14,7 @@ use Rattle.layout.proofs.laws.Make.{Spanned, there, short, spanned}
 use Rattle.wire.specs.Codecs.{units, shaped, value}
 use Rattle.wire.specs.Layout.{paired, width, Shape, one, many, string, undef, shape}
 use Rattle.wire.specs.Places.{numAt, unitsAt, textAt, arrayAt, shapeAt, valueAt}
-use Rattle.wire.specs.Property.{valuesAt, slotAt, rangeAt, listAt, formAt, propertyAt}
+use Rattle.wire.specs.Property.{valuesAt, slotAt, rangeAt, listAt, formAt, propertyAt, enableAt}
 
 pub data Broken : Told → Type 0 where
   ends : (p : ℕ) → Broken (endAt p)
@@ -112,13 +112,18 @@ form-breaks t s at =
     (breaks-after (slotAt t s p) _ (values-breaks t 1 s p) λ _ m. breaks-after (slotAt t s m) _ (values-breaks t 1 s m) λ _ n. breaks-after (slotAt t s n) _ (values-breaks t 1 s n) λ _ _. tt)
     (breaks-pick (eqb b 2) (listAt t s p) _ (breaks-after (numAt 2 s p) _ (field-breaks 2 number s p) λ n m. breaks-after (valuesAt t n s m) _ (values-breaks t n s m) λ _ _. tt) tt)
 
-pub property-breaks : (s : List ℕ) → Breaks (propertyAt s 0)
+enable-breaks : (has : Bool) (s : List ℕ) (at : ℕ) → Breaks (enableAt has s at)
+unfolding enableAt
+enable-breaks true s at = breaks-after (numAt 1 s at) _ (field-breaks 1 number s at) λ _ _. tt
+enable-breaks false s at = tt
+
+pub property-breaks : (has : Bool) (s : List ℕ) → Breaks (propertyAt has s 0)
 unfolding propertyAt
-property-breaks s =
+property-breaks has s =
     breaks-after (numAt 2 s 0) _ (field-breaks 2 number s 0) λ _ a.
     breaks-after (numAt 2 s a) _ (field-breaks 2 number s a) λ t b.
     breaks-after (numAt 1 s b) _ (field-breaks 1 number s b) λ _ c.
-    breaks-after (numAt 1 s c) _ (field-breaks 1 number s c) λ _ d.
+    breaks-after (enableAt has s c) _ (enable-breaks has s c) λ _ d.
     breaks-after (slotAt t s d) _ (values-breaks t 1 s d) λ _ e.
     breaks-after (slotAt t s e) _ (values-breaks t 1 s e) λ _ f.
     breaks-after (formAt t s f) _ (form-breaks t s f) λ _ _. tt

@@ -43,24 +43,24 @@ bare-is m n e = ap (λ (t : Told). t .no) e
 abbrev so : Reading → Val → Chosen
 so r v = record { property = r .code; value = v }
 
-module _ (d : List ℕ) (t : ℕ) (chosen : List ℕ) where
+module _ (there : Bool) (d : List ℕ) (t : ℕ) (chosen : List ℕ) where
   -- the description reads as r, which suits the chosen type, and the chosen bytes are the value v of that type
   pub record Fitting (r : Reading) (v : Val) : Type 0 where
     pub taken : ℕ
-    pub read : readingOf d ≡ got r taken
+    pub read : readingOf there d ≡ got r taken
     pub suits : suits r t ≡ true
     pub size : ℕ
     pub value : valueOf t chosen ≡ got v size
 
-  chosen-so : (r : Reading) (v : Val) (f : Fitting r v) → chosenIn d t chosen ≡ pick (allows (r .form) v) (got (so r v) (f .size)) (refused (bare VALUE))
+  chosen-so : (r : Reading) (v : Val) (f : Fitting r v) → chosenIn there d t chosen ≡ pick (allows (r .form) v) (got (so r v) (f .size)) (refused (bare VALUE))
   unfolding chosenIn after
   chosen-so r v f = rw (f .read, f .suits, f .value)
 
   -- ── 16 ──
 
-  reading-never : (u : Told) → readingOf d ≡ refused u → u ≡ bare VALUE → ⊥
+  reading-never : (u : Told) → readingOf there d ≡ refused u → u ≡ bare VALUE → ⊥
   unfolding readingOf means
-  reading-never u e is = go (propertyAt d 0) (property-breaks d) e
+  reading-never u e is = go (propertyAt there d 0) (property-breaks there d) e
     where
       go : (x : Answer _) → Breaks x → means (propertyIn d) x ≡ refused u → ⊥
       go (got a n) h e = zero-one (cc)
@@ -78,40 +78,40 @@ module _ (d : List ℕ) (t : ℕ) (chosen : List ℕ) where
       first (got l n) h e = second l n (ltb n (length chosen)) e
       first (refused w) h e = let same : w ≡ u = cc in other 13 w h (same ∙ is)
 
-  chosen-16 : chosenIn d t chosen ≡ refused (bare VALUE) → (r : Reading) × (v : Val) × Fitting r v × (allows (r .form) v ≡ false)
+  chosen-16 : chosenIn there d t chosen ≡ refused (bare VALUE) → (r : Reading) × (v : Val) × Fitting r v × (allows (r .form) v ≡ false)
   unfolding chosenIn after
-  chosen-16 e = first (readingOf d) refl e
+  chosen-16 e = first (readingOf there d) refl e
     where
       third : (r : Reading) (v : Val) → Fitting r v → (m : ℕ) (b : Bool) → allows (r .form) v ≡ b → pick b (got (so r v) m) (refused (bare VALUE)) ≡ refused (bare VALUE) →
           (r : Reading) × (v : Val) × Fitting r v × (allows (r .form) v ≡ false)
       third r v f m true g e = zero-one (cc)
       third r v f m false g e = (r, v, f, g)
 
-      second : (r : Reading) (n : ℕ) → readingOf d ≡ got r n → (b : Bool) → suits r t ≡ b → (y : Answer Val) → valueOf t chosen ≡ y →
+      second : (r : Reading) (n : ℕ) → readingOf there d ≡ got r n → (b : Bool) → suits r t ≡ b → (y : Answer Val) → valueOf t chosen ≡ y →
           pick b (after y λ v m. pick (allows (r .form) v) (got (so r v) m) (refused (bare VALUE))) (refused (bare TYPE)) ≡ refused (bare VALUE) →
           (r : Reading) × (v : Val) × Fitting r v × (allows (r .form) v ≡ false)
       second r n f true g (got v m) h e = third r v (record { taken = n; read = f; suits = g; size = m; value = h }) m (allows (r .form) v) refl e
       second r n f true g (refused u) h e = let is : u ≡ bare VALUE = cc in absurd (value-never u h is)
       second r n f false g y h e = let same : bare TYPE ≡ bare VALUE = cc in let z = bare-is TYPE VALUE same in absurd (omega arith)
 
-      first : (x : Answer Reading) → readingOf d ≡ x → after x (λ r _. pick (suits r t) (after (valueOf t chosen) λ v m. pick (allows (r .form) v) (got (so r v) m) (refused (bare VALUE))) (refused (bare TYPE))) ≡ refused (bare VALUE) →
+      first : (x : Answer Reading) → readingOf there d ≡ x → after x (λ r _. pick (suits r t) (after (valueOf t chosen) λ v m. pick (allows (r .form) v) (got (so r v) m) (refused (bare VALUE))) (refused (bare TYPE))) ≡ refused (bare VALUE) →
           (r : Reading) × (v : Val) × Fitting r v × (allows (r .form) v ≡ false)
       first (got r n) f e = second r n f (suits r t) refl (valueOf t chosen) refl e
       first (refused u) f e = let is : u ≡ bare VALUE = cc in absurd (reading-never u f is)
 
   -- ── what is chosen ──
 
-  chosen-got : (c : Chosen) (n : ℕ) → chosenIn d t chosen ≡ got c n → (r : Reading) × (v : Val) × Fitting r v × (allows (r .form) v ≡ true) × (c ≡ so r v)
+  chosen-got : (c : Chosen) (n : ℕ) → chosenIn there d t chosen ≡ got c n → (r : Reading) × (v : Val) × Fitting r v × (allows (r .form) v ≡ true) × (c ≡ so r v)
   unfolding chosenIn
   chosen-got c n e =
-      let a = parted (readingOf d) _ (sym e) in
+      let a = parted (readingOf there d) _ (sym e) in
       first (a .0) (a .1) (sym (a .2)) (suits (a .0) t) refl (a .3)
     where
       second : (r : Reading) (v : Val) → Fitting r v → (m : ℕ) (b : Bool) → allows (r .form) v ≡ b → got c n ≡ pick b (got (so r v) m) (refused (bare VALUE)) → (r : Reading) × (v : Val) × Fitting r v × (allows (r .form) v ≡ true) × (c ≡ so r v)
       second r v f m true g e = (r, v, f, g, cc)
       second r v f m false g e = zero-one (cc)
 
-      first : (r : Reading) (k : ℕ) → readingOf d ≡ got r k → (b : Bool) → suits r t ≡ b → got c n ≡ pick b (after (valueOf t chosen) λ v m. pick (allows (r .form) v) (got (so r v) m) (refused (bare VALUE))) (refused (bare TYPE)) →
+      first : (r : Reading) (k : ℕ) → readingOf there d ≡ got r k → (b : Bool) → suits r t ≡ b → got c n ≡ pick b (after (valueOf t chosen) λ v m. pick (allows (r .form) v) (got (so r v) m) (refused (bare VALUE))) (refused (bare TYPE)) →
           (r : Reading) × (v : Val) × Fitting r v × (allows (r .form) v ≡ true) × (c ≡ so r v)
       first r k f true g e =
           let b = parted (valueOf t chosen) _ e in
@@ -144,11 +144,11 @@ module _ (property number : ℕ) (w : List ℕ) where
 
 -- ── of the function's own answer ──
 
-module _ (x : Session) (d : List ℕ) (t : ℕ) (chosen old : List ℕ) (answer : Answer Turn) (new : List ℕ) (promised : Makes x 0x1016 (panelSaid d t chosen) old answer new) where
+module _ (x : Session) (there : Bool) (d : List ℕ) (t : ℕ) (chosen old : List ℕ) (answer : Answer Turn) (new : List ℕ) (promised : Makes x 0x1016 (panelSaid there d t chosen) old answer new) where
   abbrev pub number : ℕ
   number = (turn x 0x1016) .number
 
-  says-so : answer ≡ means (λ _. turn x 0x1016) (answerOf (panelSaid d t chosen number) old)
+  says-so : answer ≡ means (λ _. turn x 0x1016) (answerOf (panelSaid there d t chosen number) old)
   says-so = promised .answers ∙ ap (means (λ _. turn x 0x1016)) (promised .wrote .answers)
 
   -- what is answered of a choice: the two containers, or 10 or 9
@@ -158,14 +158,14 @@ module _ (x : Session) (d : List ℕ) (t : ℕ) (chosen old : List ℕ) (answer 
     over : 4294967283 < length ((value t) .write (c .value)) → answer ≡ refused (bare COUNT) → Answers c
     short : length old < 28 + length ((value t) .write (c .value)) → answer ≡ refused (bare ROOM) → Answers c
 
-  chosen-answers : (c : Chosen) (n : ℕ) → chosenIn d t chosen ≡ got c n → Answers c
+  chosen-answers : (c : Chosen) (n : ℕ) → chosenIn there d t chosen ≡ got c n → Answers c
   unfolding sent means answerOf leftOf
   chosen-answers c n e = go (leb (length w) 4294967283) refl (leb (28 + length w) (length old)) refl
     where
       w : List ℕ
       w = (value t) .write (c .value)
 
-      said : panelSaid d t chosen number ≡ withData (setDevicePropValue (c .property)) w number
+      said : panelSaid there d t chosen number ≡ withData (setDevicePropValue (c .property)) w number
       said = rw e
 
       go : (a : Bool) → leb (length w) 4294967283 ≡ a → (b : Bool) → leb (28 + length w) (length old) ≡ b → Answers c
@@ -178,16 +178,16 @@ module _ (x : Session) (d : List ℕ) (t : ℕ) (chosen old : List ℕ) (answer 
           short (leb-false (28 + length w) (length old) g) (says-so ∙ rw (due, both-size (c .property) number w, g))
       go false f b g = let long = leb-false (length w) 4294967283 f in over long (says-so ∙ rw (said ∙ data-over (c .property) number w long))
 
-  unchosen-answers : (u : Told) → chosenIn d t chosen ≡ refused u → answer ≡ refused u
+  unchosen-answers : (u : Told) → chosenIn there d t chosen ≡ refused u → answer ≡ refused u
   unfolding sent means answerOf
   unchosen-answers u e = says-so ∙ rw e
 
   -- ── refused with 16 ──
 
-  pub refused-exactly : (answer ≡ refused (bare VALUE)) ↔ ((r : Reading) × (v : Val) × Fitting d t chosen r v × (Allowed (r .form) v → ⊥))
-  refused-exactly = (λ e. of (chosen-16 d t chosen (forth (chosenIn d t chosen) refl e)), λ f. back (f .0) (f .1) (f .2) (f .3))
+  pub refused-exactly : (answer ≡ refused (bare VALUE)) ↔ ((r : Reading) × (v : Val) × Fitting there d t chosen r v × (Allowed (r .form) v → ⊥))
+  refused-exactly = (λ e. of (chosen-16 there d t chosen (forth (chosenIn there d t chosen) refl e)), λ f. back (f .0) (f .1) (f .2) (f .3))
     where
-      of : (r : Reading) × (v : Val) × Fitting d t chosen r v × (allows (r .form) v ≡ false) → (r : Reading) × (v : Val) × Fitting d t chosen r v × (Allowed (r .form) v → ⊥)
+      of : (r : Reading) × (v : Val) × Fitting there d t chosen r v × (allows (r .form) v ≡ false) → (r : Reading) × (v : Val) × Fitting there d t chosen r v × (Allowed (r .form) v → ⊥)
       of f = (f .0, f .1, f .2, λ a. let z = allows-exactly (f .0 .form) (f .1) .1 a in let y = f .3 in zero-one (cc))
 
       never : (c : Chosen) → Answers c → answer ≡ refused (bare VALUE) → ⊥
@@ -195,7 +195,7 @@ module _ (x : Session) (d : List ℕ) (t : ℕ) (chosen old : List ℕ) (answer 
       never c (over h f) e = let same : bare COUNT ≡ bare VALUE = cc in let z = bare-is COUNT VALUE same in omega arith
       never c (short h f) e = let same : bare ROOM ≡ bare VALUE = cc in let z = bare-is ROOM VALUE same in omega arith
 
-      forth : (y : Answer Chosen) → chosenIn d t chosen ≡ y → answer ≡ refused (bare VALUE) → chosenIn d t chosen ≡ refused (bare VALUE)
+      forth : (y : Answer Chosen) → chosenIn there d t chosen ≡ y → answer ≡ refused (bare VALUE) → chosenIn there d t chosen ≡ refused (bare VALUE)
       forth (got c n) f e = absurd (never c (chosen-answers c n f) e)
       forth (refused u) f e = let a = unchosen-answers u f in let is : u ≡ bare VALUE = cc in f ∙ ap refused is
 
@@ -203,20 +203,20 @@ module _ (x : Session) (d : List ℕ) (t : ℕ) (chosen old : List ℕ) (answer 
       not-allowed r v n true e = absurd (n (allows-exactly (r .form) v .0 e))
       not-allowed r v n false e = e
 
-      back : (r : Reading) (v : Val) → Fitting d t chosen r v → (Allowed (r .form) v → ⊥) → answer ≡ refused (bare VALUE)
-      back r v f n = unchosen-answers (bare VALUE) (chosen-so d t chosen r v f ∙ rw (not-allowed r v n (allows (r .form) v) refl))
+      back : (r : Reading) (v : Val) → Fitting there d t chosen r v → (Allowed (r .form) v → ⊥) → answer ≡ refused (bare VALUE)
+      back r v f n = unchosen-answers (bare VALUE) (chosen-so there d t chosen r v f ∙ rw (not-allowed r v n (allows (r .form) v) refl))
 
   -- ── written ──
 
   -- the value is allowed, and its word and the output are of such lengths
   pub record Goes (r : Reading) (v : Val) : Type 0 where
-    pub fits : Fitting d t chosen r v
+    pub fits : Fitting there d t chosen r v
     pub allowed : Allowed (r .form) v
     pub small : length ((value t) .write v) ≤ 4294967283
     pub room : 28 + length ((value t) .write v) ≤ length old
 
-  going : (r : Reading) (v : Val) (g : Goes r v) → chosenIn d t chosen ≡ got (so r v) (g .fits .size)
-  going r v g = chosen-so d t chosen r v (g .fits) ∙ rw (allows-exactly (r .form) v .1 (g .allowed))
+  going : (r : Reading) (v : Val) (g : Goes r v) → chosenIn there d t chosen ≡ got (so r v) (g .fits .size)
+  going r v g = chosen-so there d t chosen r v (g .fits) ∙ rw (allows-exactly (r .form) v .1 (g .allowed))
 
   -- what is left where it was written
   pub record Out (property : ℕ) (v : Val) : Type 0 where
@@ -233,7 +233,7 @@ module _ (x : Session) (d : List ℕ) (t : ℕ) (chosen old : List ℕ) (answer 
   goes-out h r v g = of (chosen-answers (so r v) (g .fits .size) (going r v g))
     where
       loose-word : Value t loose chosen v
-      loose-word = chosen-word d chosen h t (so r v) (g .fits .size) (going r v g)
+      loose-word = chosen-word there d chosen h t (so r v) (g .fits .size) (going r v g)
 
       of : Answers (so r v) → Out (r .code) v
       of (written a b e f) = record {
@@ -248,17 +248,17 @@ module _ (x : Session) (d : List ℕ) (t : ℕ) (chosen old : List ℕ) (answer 
       of (short a e) = absurd (omega (arith, g .room))
 
   pub writes-exactly : ((y : Turn) × (n : ℕ) × (answer ≡ got y n)) ↔ ((r : Reading) × (v : Val) × Goes r v)
-  writes-exactly = (λ e. forth (chosenIn d t chosen) refl (e .0) (e .1) (e .2), λ g. back (g .0) (g .1) (g .2) (chosen-answers (so (g .0) (g .1)) (g .2 .fits .size) (going (g .0) (g .1) (g .2))))
+  writes-exactly = (λ e. forth (chosenIn there d t chosen) refl (e .0) (e .1) (e .2), λ g. back (g .0) (g .1) (g .2) (chosen-answers (so (g .0) (g .1)) (g .2 .fits .size) (going (g .0) (g .1) (g .2))))
     where
-      of : (c : Chosen) (r : Reading) (v : Val) → Fitting d t chosen r v → allows (r .form) v ≡ true → c ≡ so r v → Answers c → (y : Turn) (n : ℕ) → answer ≡ got y n → (r : Reading) × (v : Val) × Goes r v
+      of : (c : Chosen) (r : Reading) (v : Val) → Fitting there d t chosen r v → allows (r .form) v ≡ true → c ≡ so r v → Answers c → (y : Turn) (n : ℕ) → answer ≡ got y n → (r : Reading) × (v : Val) × Goes r v
       of c r v f a is (written h k p q) y n e =
           let same : c .value ≡ v = ap (λ (b : Chosen). b .value) is in
           (r, v, record { fits = f; allowed = allows-exactly (r .form) v .0 a; small = rw same at h; room = rw same at k })
       of c r v f a is (over h p) y n e = zero-one (cc)
       of c r v f a is (short h p) y n e = zero-one (cc)
 
-      forth : (z : Answer Chosen) → chosenIn d t chosen ≡ z → (y : Turn) (n : ℕ) → answer ≡ got y n → (r : Reading) × (v : Val) × Goes r v
-      forth (got c m) f y n e = let k = chosen-got d t chosen c m f in of c (k .0) (k .1) (k .2) (k .3) (k .4) (chosen-answers c m f) y n e
+      forth : (z : Answer Chosen) → chosenIn there d t chosen ≡ z → (y : Turn) (n : ℕ) → answer ≡ got y n → (r : Reading) × (v : Val) × Goes r v
+      forth (got c m) f y n e = let k = chosen-got there d t chosen c m f in of c (k .0) (k .1) (k .2) (k .3) (k .4) (chosen-answers c m f) y n e
       forth (refused u) f y n e = let a = unchosen-answers u f in zero-one (cc)
 
       back : (r : Reading) (v : Val) → Goes r v → Answers (so r v) → (y : Turn) × (n : ℕ) × (answer ≡ got y n)

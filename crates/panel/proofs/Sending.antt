@@ -1,5 +1,6 @@
 -- What is lent on as the payload is the chosen value's tidy word: of a string what the tidy writer made, and of any other value the chosen bytes themselves.
 -- Assumes nothing.
+use mathlib.Core.Bool.{Bool}
 use mathlib.Core.Path.{_≡_, refl, ap, sym, _∙_, subst}
 use mathlib.Core.List.{List, _++_}
 use Prim.Native.Nat.{ℕ, zero, suc, _+_, _≤_}
@@ -81,20 +82,20 @@ unfolding means
 refused-meant f (got a n) e = zero-one (cc)
 refused-meant f (refused t) e = cc
 
-module _ (d chosen : List ℕ) (t : ℕ) where
-  pub makes-chosen : {x : Session} {old : List ℕ} → Bytes chosen → (property n : ℕ) → got property n ≡ means (λ (c : Chosen). c .property) (chosenIn d t chosen) → {r : Made} {new : List ℕ} → Sends x property t chosen old r new → Makes x 0x1016 (panelSaid d t chosen) old (saysMade r) new
+module _ (there : Bool) (d chosen : List ℕ) (t : ℕ) where
+  pub makes-chosen : {x : Session} {old : List ℕ} → Bytes chosen → (property n : ℕ) → got property n ≡ means (λ (c : Chosen). c .property) (chosenIn there d t chosen) → {r : Made} {new : List ℕ} → Sends x property t chosen old r new → Makes x 0x1016 (panelSaid there d t chosen) old (saysMade r) new
   unfolding sent
   makes-chosen {x} {old} h property n e {r} {new} s =
-      let c = unmeant (λ (c : Chosen). c .property) (chosenIn d t chosen) e in
-      let m = s .sends (c .0 .value) (chosen-word d chosen h t (c .0) n (sym (c .1))) in
+      let c = unmeant (λ (c : Chosen). c .property) (chosenIn there d t chosen) e in
+      let m = s .sends (c .0 .value) (chosen-word there d chosen h t (c .0) n (sym (c .1))) in
       subst (λ y. Makes x 0x1016 (sent t y) old (saysMade r) new) (c .1) (subst (λ p. Makes x 0x1016 (withData (setDevicePropValue p) ((value t) .write (c .0 .value))) old (saysMade r) new) (c .2) m)
 
-  pub makes-refused : {x : Session} {old : List ℕ} (u : Told) → refused u ≡ means (λ (c : Chosen). c .property) (chosenIn d t chosen) → Makes x 0x1016 (panelSaid d t chosen) old (refused u) old
+  pub makes-refused : {x : Session} {old : List ℕ} (u : Told) → refused u ≡ means (λ (c : Chosen). c .property) (chosenIn there d t chosen) → Makes x 0x1016 (panelSaid there d t chosen) old (refused u) old
   unfolding sent means
   makes-refused {x} {old} u e =
-      subst (λ y. Makes x 0x1016 (sent t y) old (refused u) old) (sym (refused-meant (λ (c : Chosen). c .property) (chosenIn d t chosen) e)) (record { written = refused u; wrote = refusal refl; answers = refl })
+      subst (λ y. Makes x 0x1016 (sent t y) old (refused u) old) (sym (refused-meant (λ (c : Chosen). c .property) (chosenIn there d t chosen) e)) (record { written = refused u; wrote = refusal refl; answers = refl })
 
-  pub chosen-is : Bytes chosen → (property n : ℕ) → got property n ≡ means (λ (c : Chosen). c .property) (chosenIn d t chosen) → IsValue t chosen
+  pub chosen-is : Bytes chosen → (property n : ℕ) → got property n ≡ means (λ (c : Chosen). c .property) (chosenIn there d t chosen) → IsValue t chosen
   chosen-is h property n e =
-      let c = unmeant (λ (c : Chosen). c .property) (chosenIn d t chosen) e in
-      (c .0 .value, chosen-word d chosen h t (c .0) n (sym (c .1)))
+      let c = unmeant (λ (c : Chosen). c .property) (chosenIn there d t chosen) e in
+      (c .0 .value, chosen-word there d chosen h t (c .0) n (sym (c .1)))

@@ -19,7 +19,7 @@ use Rattle.wire.specs.Description as placed
 use Rattle.wire.specs.Description.{PropInfo}
 use Rattle.wire.specs.Layout.{Kind, width, meaning, one, shape, Val, num}
 use Rattle.wire.specs.Places.{numAt, number-is, shapeAt, valueAt}
-use Rattle.wire.specs.Property.{between, slotIn, valuesAt, slotAt, rangeAt, listAt, formAt, propertyAt}
+use Rattle.wire.specs.Property.{between, slotIn, valuesAt, slotAt, rangeAt, listAt, formAt, propertyAt, enableAt}
 use Rattle.wire.specs.declared.property.Slot.{Slot}
 use Rattle.wire.proofs.laws.Contained.{accepts-small}
 use Rattle.panel.proofs.Values.{parted, unmeant, field-there}
@@ -102,13 +102,13 @@ module _ (t : ℕ) (s : List ℕ) (a b c : Slot) where
           zero-one (cc (v .3))
       first p false false e = zero-one (cc)
 
-pub property-three : (s : List ℕ) (x : PropInfo) (n : ℕ) → propertyAt s 0 ≡ got x n → (a b c : Slot) → x .form ≡ placed.range a b c → Three (x .«data_type») s a b c
+pub property-three : (there : Bool) (s : List ℕ) (x : PropInfo) (n : ℕ) → propertyAt there s 0 ≡ got x n → (a b c : Slot) → x .form ≡ placed.range a b c → Three (x .«data_type») s a b c
 unfolding propertyAt
-property-three s x n e a b c f =
+property-three there s x n e a b c f =
     let c1 = parted (numAt 2 s 0) _ (sym e) in
     let c2 = parted (numAt 2 s (c1 .1)) _ (c1 .3) in
     let c3 = parted (numAt 1 s (c2 .1)) _ (c2 .3) in
-    let c4 = parted (numAt 1 s (c3 .1)) _ (c3 .3) in
+    let c4 = parted (enableAt there s (c3 .1)) _ (c3 .3) in
     let c5 = parted (slotAt (c2 .0) s (c4 .1)) _ (c4 .3) in
     let c6 = parted (slotAt (c2 .0) s (c5 .1)) _ (c5 .3) in
     let c7 = parted (formAt (c2 .0) s (c6 .1)) _ (c6 .3) in

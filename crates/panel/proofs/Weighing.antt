@@ -99,7 +99,7 @@ module _ (d chosen : List ℕ) (h : Bytes d) (g : Bytes chosen) (x : PropInfo) (
   range-allows a b c f = go (integers (small t (suits-range d x s a b c f)))
     where
       three : Three t d a b c
-      three = property-three d x (s .end) (s .read) a b c f
+      three = property-three (s .there) d x (s .end) (s .read) a b c f
 
       go : (k : Kind) × (shape t ≡ one k) × Integers k → wholeRange (wholeFrom (valueAt t d (a .start))) (wholeFrom (valueAt t d (b .start))) (wholeFrom (valueAt t d (c .start))) (wholeOf l) ≡ allows ((propertyIn d x) .form) (shapeIn (shape t) chosen l)
       go y =
@@ -115,17 +115,17 @@ module _ (d chosen : List ℕ) (h : Bytes d) (g : Bytes chosen) (x : PropInfo) (
   -- ── a list ──
 
   module _ (p : Slot) (n : ℕ) (f : x .form ≡ placed.list p n) (r : RefT (List ℕ)) (is : now r ≡ d) where
-    listed : Yields t d (rest r t (p .start) n) (its d h x (s .end) (s .read))
+    listed : Yields t d (rest r t (p .start) n) (its (s .there) d h x (s .end) (s .read))
     listed =
-        let place : placeOf d ≡ record { ty = t; at = p .start; left = n; refusal = 0 } = ap placeFrom (s .read) ∙ rw f in
-        steps d h x (s .end) (s .read) r is (rest r t (p .start) n) (ap (listAt r) (sym place))
+        let place : placeOf (s .there) d ≡ record { ty = t; at = p .start; left = n; refusal = 0 } = ap placeFrom (s .read) ∙ rw f in
+        steps (s .there) d h x (s .end) (s .read) r is (rest r t (p .start) n) (ap (listAt r) (sym place))
 
     pub list-gives : Gives t (rest r t (p .start) n)
-    list-gives = (its d h x (s .end) (s .read), subst (λ e. Yields t e (rest r t (p .start) n) (its d h x (s .end) (s .read))) (sym is) listed)
+    list-gives = (its (s .there) d h x (s .end) (s .read), subst (λ e. Yields t e (rest r t (p .start) n) (its (s .there) d h x (s .end) (s .read))) (sym is) listed)
 
     pub list-allows : (b : Bool) → Finds t (rest r t (p .start) n) chosen b → b ≡ allows ((propertyIn d x) .form) (shapeIn (shape t) chosen l)
     unfolding allows list-gives
-    list-allows b q = q .finds (its d h x (s .end) (s .read)) (shapeIn (shape t) chosen l) (list-gives .1) (is-word t chosen g l (st .0) (sym (st .1))) ∙ rw f
+    list-allows b q = q .finds (its (s .there) d h x (s .end) (s .read)) (shapeIn (shape t) chosen l) (list-gives .1) (is-word t chosen g l (st .0) (sym (st .1))) ∙ rw f
 
   -- ── no form ──
 
@@ -143,12 +143,12 @@ suits-type r t e = go (eqb t (r .type)) refl e
     go true f e = eqb-true t (r .type) f
     go false f e = zero-one (cc)
 
-module _ (d chosen : List ℕ) (t : ℕ) (x : PropInfo) (n : ℕ) (read : propertyAt d 0 ≡ got x n) where
+module _ (there : Bool) (d chosen : List ℕ) (t : ℕ) (x : PropInfo) (n : ℕ) (read : propertyAt there d 0 ≡ got x n) where
   module _ (fine : suits (propertyIn d x) t ≡ true) where
     pub suited : Suited d x
-    suited = record { end = n; read = read; suits = subst (λ u. suits (propertyIn d x) u ≡ true) (suits-type (propertyIn d x) t fine) fine }
+    suited = record { there = there; end = n; read = read; suits = subst (λ u. suits (propertyIn d x) u ≡ true) (suits-type (propertyIn d x) t fine) fine }
 
-    pub chosen-weighed : weighed d x chosen ≡ means (λ (c : Chosen). c .property) (chosenIn d t chosen)
+    pub chosen-weighed : weighed d x chosen ≡ means (λ (c : Chosen). c .property) (chosenIn there d t chosen)
     unfolding weighed chosenIn readingOf means after
     chosen-weighed = rw (read, fine, suits-type (propertyIn d x) t fine) (go (valueOf (x .«data_type») chosen))
       where
@@ -161,19 +161,19 @@ module _ (d chosen : List ℕ) (t : ℕ) (x : PropInfo) (n : ℕ) (read : proper
         go (got v m) = last v m (allows ((propertyIn d x) .form) v)
         go (refused u) = refl
 
-  pub chosen-other : suits (propertyIn d x) t ≡ false → chosenIn d t chosen ≡ refused (bare TYPE)
+  pub chosen-other : suits (propertyIn d x) t ≡ false → chosenIn there d t chosen ≡ refused (bare TYPE)
   unfolding chosenIn readingOf means after
   chosen-other other = rw (read, other)
 
-pub chosen-unread : (d chosen : List ℕ) (t : ℕ) (u : Told) → propertyAt d 0 ≡ refused u → chosenIn d t chosen ≡ refused u
+pub chosen-unread : (there : Bool) (d chosen : List ℕ) (t : ℕ) (u : Told) → propertyAt there d 0 ≡ refused u → chosenIn there d t chosen ≡ refused u
 unfolding chosenIn readingOf means after
-chosen-unread d chosen t u read = rw read
+chosen-unread there d chosen t u read = rw read
 
 -- what is chosen of a type is a whole value of it
-pub chosen-word : (d chosen : List ℕ) → Bytes chosen → (t : ℕ) (c : Chosen) (n : ℕ) → chosenIn d t chosen ≡ got c n → Value t loose chosen (c .value)
+pub chosen-word : (there : Bool) (d chosen : List ℕ) → Bytes chosen → (t : ℕ) (c : Chosen) (n : ℕ) → chosenIn there d t chosen ≡ got c n → Value t loose chosen (c .value)
 unfolding chosenIn valueOf
-chosen-word d chosen h t c n e =
-    let a = parted (readingOf d) _ (sym e) in
+chosen-word there d chosen h t c n e =
+    let a = parted (readingOf there d) _ (sym e) in
     first (a .0) (suits (a .0) t) (a .3)
   where
     second : (r : Reading) (v : Val) (m : ℕ) (b : Bool) → got c n ≡ pick b (got (record { property = r .code; value = v }) m) (refused (bare VALUE)) → c .value ≡ v

@@ -27,9 +27,9 @@ use Rattle.panel.specs.declared.Choice.the-variants as choice
 
 -- ── what is read ──
 
--- the description's reading: 1 or 2 with its place in the description; bytes may follow it
-unfoldable pub readingOf : List ℕ → Answer Reading
-readingOf description = means (propertyIn description) (propertyAt description 0)
+-- the description's reading, by whether its layout has the `IsEnable` byte: 1 or 2 with its place in the description; bytes may follow it
+unfoldable pub readingOf : Bool → List ℕ → Answer Reading
+readingOf there description = means (propertyIn description) (propertyAt there description 0)
 
 -- the chosen bytes as one value of the type: 1 or 2 with its place in them, then 3 where bytes follow
 unfoldable pub valueOf : ℕ → List ℕ → Answer Val
@@ -62,9 +62,9 @@ pub record Chosen : Type 0 where
   pub property : ℕ
   pub value : Val
 
-unfoldable pub chosenIn : List ℕ → ℕ → List ℕ → Answer Chosen
-chosenIn description type chosen =
-    after (readingOf description) λ r _.
+unfoldable pub chosenIn : Bool → List ℕ → ℕ → List ℕ → Answer Chosen
+chosenIn there description type chosen =
+    after (readingOf there description) λ r _.
     pick (suits r type)
     (after (valueOf type chosen) λ v end.
     pick (allows (r .form) v) (got (record { property = r .code; value = v }) end) (refused (bare VALUE)))
@@ -80,8 +80,8 @@ unfoldable pub sent : ℕ → Answer Chosen → ℕ → Said
 sent type (got c n) number = withData (setDevicePropValue (c .property)) ((codec type) .write (c .value)) number
 sent type (refused t) number = no t
 
-abbrev pub panelSaid : List ℕ → ℕ → List ℕ → ℕ → Said
-panelSaid description type chosen = sent type (chosenIn description type chosen)
+abbrev pub panelSaid : Bool → List ℕ → ℕ → List ℕ → ℕ → Said
+panelSaid there description type chosen = sent type (chosenIn there description type chosen)
 
 -- ── inside the code ──
 
@@ -92,10 +92,11 @@ TellsRange f r = (t : ℕ) (s : List ℕ) → r ≡ isRange (formIn t s f)
 abbrev pub TellsSuits : PropInfo → ℕ → Bool → Type 0
 TellsSuits x type r = (s : List ℕ) → r ≡ suits (propertyIn s x) type
 
--- a description that was read, and that suits its own type
+-- a description that was read, by either layout, and that suits its own type
 pub record Suited (description : List ℕ) (x : PropInfo) : Type 0 where
+  pub there : Bool
   pub end : ℕ
-  pub read : propertyAt description 0 ≡ got x end
+  pub read : propertyAt there description 0 ≡ got x end
   pub suits : suits (propertyIn description x) (x .«data_type») ≡ true
 
 -- chosen bytes that are one value of the type, by its place; and by its word

@@ -4,7 +4,7 @@ ghost use mathlib.Core.Path.{_≡_};
 ghost use Rattle.layout.specs.Answer.{means};
 ghost use Rattle.wire.specs.Layout.{shape};
 ghost use Rattle.wire.specs.Places.{valueAt, shapeIn};
-ghost use Rattle.wire.specs.Property.{saysForm, infoFrom, propertyIn};
+ghost use Rattle.wire.specs.Property.{hasEnable, saysForm, infoFrom, propertyIn};
 ghost use Rattle.wire.specs.Says.{located, saysValue};
 ghost use Rattle.session.specs.Payloads.{filling};
 ghost use Rattle.session.specs.Transaction.{Makes, saysMade};
@@ -22,6 +22,7 @@ use session::Session;
 use wire::Cursor;
 use wire::Form;
 use wire::PropInfo;
+use wire::PropLayout;
 use wire::ReadProperty;
 use wire::ReadValue;
 use wire::Span;
@@ -141,10 +142,10 @@ fn weigh(description: &[u8], x: PropInfo, chosen: &[u8]) -> Choice
     }
 }
 
-fn choose(description: &[u8], code: u16, chosen: &[u8]) -> Choice
-    ensures { λ r. ⌜ saysChoice r ≡ means (λ (c : Chosen). c .property) (chosenIn (now (description .entry)) code (now (chosen .entry))) ⌝ }
+fn choose(l: PropLayout, description: &[u8], code: u16, chosen: &[u8]) -> Choice
+    ensures { λ r. ⌜ saysChoice r ≡ means (λ (c : Chosen). c .property) (chosenIn (hasEnable l) (now (description .entry)) code (now (chosen .entry))) ⌝ }
 {
-    match wire::property_info(description, Cursor { at: 0 }) {
+    match wire::property_info(l, description, Cursor { at: 0 }) {
         ReadProperty::Got(x, _) => {
             if fitting(x, code) {
                 weigh(description, x, chosen)
@@ -175,15 +176,16 @@ fn send(session: Session, property: u16, code: u16, chosen: &[u8], out: &mut [u8
 
 // SetDevicePropValue of a value that the description allows, and its data behind it in one output.
 pub fn set_value(
+    l: PropLayout,
     session: Session,
     description: &[u8],
     code: u16,
     value: &[u8],
     out: &mut [u8],
 ) -> Made
-    ensures { λ r. ⌜ Makes session 0x1016 (panelSaid (now (description .entry)) code (now (value .entry))) (now (out .entry)) (saysMade r) (now (out .exit)) ⌝ }
+    ensures { λ r. ⌜ Makes session 0x1016 (panelSaid (hasEnable l) (now (description .entry)) code (now (value .entry))) (now (out .entry)) (saysMade r) (now (out .exit)) ⌝ }
 {
-    match choose(description, code, value) {
+    match choose(l, description, code, value) {
         Choice::Taken(property, _) => send(session, property, code, value, out),
         Choice::Refused(f) => Made::Refused(f),
     }

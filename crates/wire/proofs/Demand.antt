@@ -1,5 +1,6 @@
 -- The demand at each layout of the byte layer: accepted exactly when a prefix is in the grammar, one prefix and one reading, and the one tidy word.
 -- Assumes nothing.
+use mathlib.Core.Bool.{Bool}
 use Prim.Native.Nat.{ℕ}
 use Rattle.layout.specs.Faithful.{Faithful}
 use Rattle.layout.proofs.laws.Meets.{faithful}
@@ -22,5 +23,6 @@ objects = faithful (row-format object)
 pub storages : Faithful (Row storage) (row storage)
 storages = faithful (row-format storage)
 
-pub properties : Faithful Property property
-properties = faithful property-format
+-- once over whether the `IsEnable` byte is there
+pub properties : (there : Bool) → Faithful (Property there) (property there)
+properties there = faithful (property-format there)

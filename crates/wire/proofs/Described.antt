@@ -1,5 +1,7 @@
 -- A property's description: the code's reader of places answers, by its meaning, as the layout's own, and every part lies within.
 -- Assumes nothing.
+use mathlib.Core.Option.{Option, some, none}
+use mathlib.Core.Bool.{Bool, true, false}
 use mathlib.Core.Path.{_≡_, refl, ap, sym, _∙_}
 use mathlib.Core.List.{List, [], _∷_}
 use Prim.Native.Nat.{ℕ, zero, suc, _+_, _-_, _≤_}
@@ -18,9 +20,9 @@ use Rattle.wire.specs.Description.{PropInfo}
 use Rattle.wire.specs.declared.property.Slot.{Slot}
 use Rattle.wire.specs.Description as placed
 use Rattle.wire.specs.Layout.{Val, shape, Form, range, list, reading}
-use Rattle.wire.specs.Codecs.{value, row, three, listed, formed, form, property}
+use Rattle.wire.specs.Codecs.{value, row, three, listed, formed, form, property, enable}
 use Rattle.wire.specs.Places.{numAt, Located, valueAt, shapeIn, shapeParts}
-use Rattle.wire.specs.Property.{between, slotAt, valuesAt, rangeAt, listAt, formAt, propertyAt, slotIn, valuesIn, formIn, propertyIn}
+use Rattle.wire.specs.Property.{between, slotAt, valuesAt, rangeAt, listAt, formAt, propertyAt, slotIn, valuesIn, formIn, propertyIn, enableAt}
 use Rattle.wire.specs.Tidy.{rowWord, types}
 use Rattle.wire.proofs.Located.{values, num-lies}
 use Rattle.wire.proofs.Locals.{value-local}
@@ -115,19 +117,28 @@ from-current t = value t and λ _. form t
 abbrev from-default : ℕ → Codec (Val × (Val × Form))
 from-default t = value t and λ _. from-current t
 
-abbrev from-enable : ℕ → Codec (ℕ × (Val × (Val × Form)))
-from-enable t = numbered 1 and λ _. from-default t
+abbrev from-enable : Bool → ℕ → Codec (Option ℕ × (Val × (Val × Form)))
+from-enable there t = enable there and λ _. from-default t
 
-abbrev from-getset : ℕ → Codec (ℕ × (ℕ × (Val × (Val × Form))))
-from-getset t = numbered 1 and λ _. from-enable t
+abbrev from-getset : Bool → ℕ → Codec (ℕ × (Option ℕ × (Val × (Val × Form))))
+from-getset there t = numbered 1 and λ _. from-enable there t
 
-property-agrees : (s : List ℕ) (at : ℕ) → means (propertyIn s) (propertyAt s at) ≡ property .read s at
+enable-means : (there : Bool) (s : List ℕ) (p : ℕ) → means (λ e. e) (enableAt there s p) ≡ (enable there) .read s p
+unfolding enableAt after means
+enable-means true s p = go (numAt 1 s p)
+  where
+    go : (x : Answer ℕ) → means (λ e. e) (after x λ n next. got (some n) next) ≡ means some x
+    go (got n next) = refl
+    go (refused t) = refl
+enable-means false s p = refl
+
+property-agrees : (there : Bool) (s : List ℕ) (at : ℕ) → means (propertyIn s) (propertyAt there s at) ≡ (property there) .read s at
 unfolding propertyAt means
-property-agrees s at =
-    and-link (numbered 2) (λ _. numbered 2 and from-getset) s at reading _ (λ n. n) _ _ (means-same (numAt 2 s at)) λ c a.
-    and-link (numbered 2) from-getset s a _ _ (λ n. n) _ _ (means-same (numAt 2 s a)) λ t b.
-    and-link (numbered 1) (λ _. from-enable t) s b _ _ (λ n. n) _ _ (means-same (numAt 1 s b)) λ g d.
-    and-link (numbered 1) (λ _. from-default t) s d _ _ (λ n. n) _ _ (means-same (numAt 1 s d)) λ e f.
+property-agrees there s at =
+    and-link (numbered 2) (λ _. numbered 2 and from-getset there) s at reading _ (λ n. n) _ _ (means-same (numAt 2 s at)) λ c a.
+    and-link (numbered 2) (from-getset there) s a _ _ (λ n. n) _ _ (means-same (numAt 2 s a)) λ t b.
+    and-link (numbered 1) (λ _. from-enable there t) s b _ _ (λ n. n) _ _ (means-same (numAt 1 s b)) λ g d.
+    and-link (enable there) (λ _. from-default t) s d _ _ (λ e. e) _ _ (enable-means there s d) λ e f.
     and-link (value t) (λ _. from-current t) s f _ _ (slotIn t s) _ _ (slot-means t s f) λ x h.
     and-link (value t) (λ _. form t) s h _ _ (slotIn t s) _ _ (slot-means t s h) λ y i.
     end-link (form t) s i _ _ (formIn t s) _ _ (form-means t s i) λ w next. refl
@@ -222,15 +233,20 @@ form-lies t s at = lies-after _ (num-lies 1 s at) λ b p h _. by b p h
 abbrev pub property-parts : PropInfo → List (ℕ × ℕ)
 property-parts x = extent (x .«factory_default») ∷ extent (x .current) ∷ form-parts (x .form)
 
-pub properties : Placed propertyIn property-parts propertyAt (property .read)
+enable-lies : (there : Bool) (s : List ℕ) (at : ℕ) → Lies (λ _. []) at (enableAt there s at)
+unfolding enableAt
+enable-lies true s at = lies-after _ (num-lies 1 s at) λ v n h _. lies (some v) n h tt
+enable-lies false s at = lies none at (omega arith) tt
+
+pub properties : (there : Bool) → Placed propertyIn property-parts (propertyAt there) ((property there) .read)
 unfolding propertyAt
-properties = record {
-  agrees = property-agrees;
+properties there = record {
+  agrees = property-agrees there;
   inside = λ s at.
       lies-after _ (num-lies 2 s at) λ _ a h0 _.
       lies-after _ (num-lies 2 s a) λ t b h1 _.
       lies-after _ (num-lies 1 s b) λ _ c h2 _.
-      lies-after _ (num-lies 1 s c) λ _ d h3 _.
+      lies-after _ (enable-lies there s c) λ _ d h3 _.
       lies-after _ (values-lie t 1 s d) λ _ e h4 k4.
       lies-after _ (values-lie t 1 s e) λ _ f h5 k5.
       lies-after _ (form-lies t s f) λ w next h6 k6.

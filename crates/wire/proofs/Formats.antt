@@ -1,5 +1,6 @@
 -- Each codec of the byte layer is faithful to its layout: one line for each way that the layout is made.
 -- Assumes nothing.
+use mathlib.Core.Option.{some, none}
 use mathlib.Core.Path.{_≡_, refl, ap, sym, subst}
 use mathlib.Core.Bool.{Bool, true, false}
 use mathlib.Core.List.{List, [], _∷_, map}
@@ -13,8 +14,8 @@ use Rattle.layout.specs.Bytes.{bytes}
 use Rattle.layout.specs.Grammar.{loose, empty, Number, num, _then_, both, lead, such, as′, Repeat, Spare, Counted}
 use Rattle.layout.specs.Format.{Format}
 use Rattle.layout.proofs.laws.Make.{nothing-format, number-format, then-format, lead-format, such-format, as-format, field-format, repeat-format, repeat-length, spare-format, cells-format, count-format}
-use Rattle.wire.specs.Layout.{signed, Kind, sint, uint, wide, width, meaning, paired, Units, text-count, Text, Shape, one, many, string, undef, shape, Shaped, Value, Row, Form, list, no-form, Formed, form-byte, FormOf, reading, Fields, Property}
-use Rattle.wire.specs.Codecs.{unsigned, number-of, all-units, units, text, array, shaped, value, row, three, listed, form-write, formed, form, fields, property}
+use Rattle.wire.specs.Layout.{signed, Kind, sint, uint, wide, width, meaning, paired, Units, text-count, Text, Shape, one, many, string, undef, shape, Shaped, Value, Row, Form, list, no-form, Formed, form-byte, FormOf, reading, Fields, Property, Enable}
+use Rattle.wire.specs.Codecs.{unsigned, number-of, all-units, units, text, array, shaped, value, row, three, listed, form-write, formed, form, fields, property, enable}
 
 -- ── the number that a meaning is of ──
 
@@ -104,15 +105,19 @@ form-home t (suc (suc (suc n))) u v r g empty = ((bytes 1 0, num {n = 0} (omega 
 form-format : (t : ℕ) → Format (FormOf t) (form t)
 form-format t = lead-format (number-format 1) form-byte (formed-format t) (form-home t)
 
-fields-format : Format Fields fields
-fields-format =
+pub enable-format : (there : Bool) → Format (Enable there) (enable there)
+enable-format true = as-format some (number-format 1) _ λ w x g. refl
+enable-format false = nothing-format none
+
+fields-format : (there : Bool) → Format (Fields there) (fields there)
+fields-format there =
     then-format (number-format 2) λ code.
     then-format (number-format 2) λ type.
     then-format (number-format 1) λ getset.
-    then-format (number-format 1) λ enable.
+    then-format (enable-format there) λ enabled.
     then-format (value-format type) λ default.
     then-format (value-format type) λ current.
     form-format type
 
-pub property-format : Format Property property
-property-format = as-format reading fields-format _ λ w x g. refl
+pub property-format : (there : Bool) → Format (Property there) (property there)
+property-format there = as-format reading (fields-format there) _ λ w x g. refl

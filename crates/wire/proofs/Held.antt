@@ -82,8 +82,8 @@ record ReadingSpelled (r : Reading) : Type 0 where
   current : Spelled (Value (r .type)) (r .current)
   form : FormSpelled (r .type) (r .form)
 
-reading-spelled : (w : List ℕ) (r : Reading) → Property loose w r → ReadingSpelled r
-reading-spelled w r (as′ (both g1 (both {a = t} g2 (both g3 (both g4 (both {u = u5} g5 (both {u = u6} g6 (lead {v = v7} {a = b7} {r = f7} g7 e7 h7)))))))) =
+reading-spelled : (there : Bool) (w : List ℕ) (r : Reading) → Property there loose w r → ReadingSpelled r
+reading-spelled there w r (as′ (both g1 (both {a = t} g2 (both g3 (both g4 (both {u = u5} g5 (both {u = u6} g6 (lead {v = v7} {a = b7} {r = f7} g7 e7 h7)))))))) =
     record { default = (u5, g5); current = (u6, g6); form = form-spelled t b7 v7 f7 h7 }
 
 -- ── so its parts fill ──
@@ -120,10 +120,10 @@ module _ (s : List ℕ) (h : Bytes s) where
     form-pinned t (placed.list p k) i (of-list m w) = a-list (values-pinned t k m p (omega arith) w)
     form-pinned t placed.absent i of-none = absent
 
-  pub settled : (y : Answer PropInfo) → Kept Property property (propertyIn s) property-parts s y → (x : PropInfo) (n : ℕ) → y ≡ got x n → WordedProperty s x (propertyIn s x)
-  settled y k x n e =
+  pub settled : (there : Bool) (y : Answer PropInfo) → Kept (Property there) (property there) (propertyIn s) property-parts s y → (x : PropInfo) (n : ℕ) → y ≡ got x n → WordedProperty s x (propertyIn s x)
+  settled there y k x n e =
       let a = k .exact .accepts x n e in
-      let w = reading-spelled (take n s) (propertyIn s x) (a .reads) in
+      let w = reading-spelled there (take n s) (propertyIn s x) (a .reads) in
       go (subst (Lies property-parts 0) e (k .inside)) (a .within) w
     where
       go : Lies property-parts 0 (got x n) → n ≤ length s → ReadingSpelled (propertyIn s x) → WordedProperty s x (propertyIn s x)
@@ -138,5 +138,5 @@ module _ (s : List ℕ) (h : Bytes s) where
       }
 
   -- and so are those of the description that is read
-  pub held : (x : PropInfo) (n : ℕ) → propertyAt s 0 ≡ got x n → WordedProperty s x (propertyIn s x)
-  held x n e = settled (propertyAt s 0) (kept property-format properties s h (propertyAt s 0) refl) x n e
+  pub held : (there : Bool) (x : PropInfo) (n : ℕ) → propertyAt there s 0 ≡ got x n → WordedProperty s x (propertyIn s x)
+  held there x n e = settled there (propertyAt there s 0) (kept (property-format there) (properties there) s h (propertyAt there s 0) refl) x n e

@@ -14,9 +14,9 @@ use Rattle.wire.specs.Newer.{fills, fresh, present, newerFrom, newerOf}
 use Rattle.wire.specs.Property.{propertyAt}
 use Rattle.wire.proofs.Held.{held}
 
-module _ (d p : List ℕ) (h : Bytes d) where
-  pub within : (newerOf d p) .start + (newerOf d p) .len ≤ length (pick ((newerOf d p) .«of_payload») p d)
-  within = go (propertyAt d 0) (λ x n e. (held d h x n e) .current .within)
+module _ (there : Bool) (d p : List ℕ) (h : Bytes d) where
+  pub within : (newerOf there d p) .start + (newerOf there d p) .len ≤ length (pick ((newerOf there d p) .«of_payload») p d)
+  within = go (propertyAt there d 0) (λ x n e. (held d h there x n e) .current .within)
     where
       inside : (x : PropInfo) (b : Bool) → x .current .start + x .current .len ≤ length d
           → (pick b (fresh p) (present x)) .start + (pick b (fresh p) (present x)) .len ≤ length (pick ((pick b (fresh p) (present x)) .«of_payload») p d)
@@ -28,9 +28,9 @@ module _ (d p : List ℕ) (h : Bytes d) where
       go (refused t) k = omega arith
 
 -- so of any part that the promise allows
-pub chosen-within : (d p : List ℕ) → Bytes d → (n : Chosen) → n ≡ newerOf d p
+pub chosen-within : (there : Bool) (d p : List ℕ) → Bytes d → (n : Chosen) → n ≡ newerOf there d p
     → (n .start + n .len ≤ length p + length d) × (n .«of_payload» ≡ true → n .start + n .len ≤ length p) × (n .«of_payload» ≡ false → n .start + n .len ≤ length d)
-chosen-within d p h n e = subst (λ m. (m .start + m .len ≤ length p + length d) × (m .«of_payload» ≡ true → m .start + m .len ≤ length p) × (m .«of_payload» ≡ false → m .start + m .len ≤ length d)) (sym e) (of (newerOf d p) (within d p h))
+chosen-within there d p h n e = subst (λ m. (m .start + m .len ≤ length p + length d) × (m .«of_payload» ≡ true → m .start + m .len ≤ length p) × (m .«of_payload» ≡ false → m .start + m .len ≤ length d)) (sym e) (of (newerOf there d p) (within there d p h))
   where
     of : (m : Chosen) → m .start + m .len ≤ length (pick (m .«of_payload») p d) → (m .start + m .len ≤ length p + length d) × (m .«of_payload» ≡ true → m .start + m .len ≤ length p) × (m .«of_payload» ≡ false → m .start + m .len ≤ length d)
     of m k = (either (m .«of_payload») k, λ f. rw f at k, λ f. rw f at k)

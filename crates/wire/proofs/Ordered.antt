@@ -1,14 +1,16 @@
 -- The parts of a description begin where the layout puts them: each where the one before it ends.
 -- Assumes nothing.
+use mathlib.Core.Option.{some, none}
+use mathlib.Core.Bool.{Bool, true, false}
 use mathlib.Core.Path.{_≡_, refl, _∙_}
 use mathlib.Core.List.{List}
 use Prim.Native.Nat.{ℕ, zero, suc, _+_}
 use native.Mathlib.Omega.{arith}
 use borrow.Author.Tests.{ne-eqb}
 use lib.Dec.{eqb}
-use lib.ListN.{take, drop}
+use lib.ListN.{take, drop, length}
 use Rattle.layout.specs.Answer.{Told, Answer, got, refused, after, pick, spanAt, fieldAt}
-use Rattle.layout.specs.Bytes.{number}
+use Rattle.layout.specs.Bytes.{number, bytes}
 use Rattle.layout.specs.Codec.{repeated}
 use Rattle.layout.proofs.laws.Local.{repeated-local, alone}
 use Rattle.layout.proofs.laws.Make.{Spanned, short, spanned, there}
@@ -16,9 +18,9 @@ use Rattle.layout.proofs.laws.Tidied.{zero-one}
 use Rattle.wire.specs.Description.{PropInfo}
 use Rattle.wire.specs.Description as placed
 use Rattle.wire.specs.Layout.{Val}
-use Rattle.wire.specs.Codecs.{value}
+use Rattle.wire.specs.Codecs.{value, enable-write}
 use Rattle.wire.specs.Places.{numAt}
-use Rattle.wire.specs.Property.{between, valuesAt, rangeAt, listAt, formAt, propertyAt}
+use Rattle.wire.specs.Property.{between, valuesAt, rangeAt, listAt, formAt, propertyAt, enableAt}
 use Rattle.wire.specs.Worded.{ends, FormInOrder, InOrder}
 use Rattle.wire.proofs.Locals.{value-local}
 
@@ -66,20 +68,25 @@ module _ (s : List ℕ) where
           when (placed.list y n) m (omega (arith, w .0, i, j), w .1)
       by (suc (suc (suc n))) p i = rw (ne-eqb (suc (suc (suc n))) 1 (λ e. omega arith), ne-eqb (suc (suc (suc n))) 2 (λ e. omega arith)) (when placed.absent p i)
 
-  property-order : When (λ x n. InOrder x n) (propertyAt s 0)
+  enable-ends : (has : Bool) (at : ℕ) → When (λ e n. n ≡ at + length (enable-write e)) (enableAt has s at)
+  unfolding enableAt bytes
+  enable-ends true at = when-after _ (number-ends 1 at) λ v n i. when (some v) n i
+  enable-ends false at = when none at (omega arith)
+
+  property-order : (has : Bool) → When (λ x n. InOrder x n) (propertyAt has s 0)
   unfolding propertyAt
-  property-order =
+  property-order has =
       when-after _ (number-ends 2 0) λ _ a i.
       when-after _ (number-ends 2 a) λ t b j.
       when-after _ (number-ends 1 b) λ _ c k.
-      when-after _ (number-ends 1 c) λ _ d l.
+      when-after _ (enable-ends has c) λ _ d l.
       when-after _ (values-end t 1 d) λ x e u.
       when-after _ (values-end t 1 e) λ y f v.
       when-after _ (form-order t f) λ z n w.
       when _ n (record { default = omega (arith, u .0, i, j, k, l); current = v .0 ∙ u .1; form = rw (← v .1) w })
 
-  pub in-order : (x : PropInfo) (n : ℕ) → propertyAt s 0 ≡ got x n → InOrder x n
-  in-order x n e = go (propertyAt s 0) property-order e
+  pub in-order : (has : Bool) (x : PropInfo) (n : ℕ) → propertyAt has s 0 ≡ got x n → InOrder x n
+  in-order has x n e = go (propertyAt has s 0) (property-order has) e
     where
       go : (y : Answer PropInfo) → When (λ x n. InOrder x n) y → y ≡ got x n → InOrder x n
       go (got z m) (when z′ m′ w) e = let f : z ≡ x = cc in let g : m ≡ n = cc in rw (f, g) at w

@@ -1,6 +1,8 @@
 -- Which refusal each layout of the byte layer is given: TEXT exactly where the bytes begin with a fault, END exactly where they begin with neither a word nor a fault.
 -- An answer other than END is not changed by bytes that follow, and after END some bytes give one.
 -- Assumes nothing.
+use mathlib.Core.Option.{none}
+use mathlib.Core.Bool.{Bool, true, false}
 use mathlib.Core.Path.{_≡_, refl}
 use mathlib.Core.List.{List, [], _∷_}
 use Prim.Native.Nat.{ℕ, zero, suc}
@@ -11,7 +13,7 @@ use Rattle.layout.proofs.laws.Decided.{decides, refuses-exactly}
 use Rattle.layout.proofs.laws.Final.{nothing-faults, number-faults, cells-faults, then-faults, lead-faults, such-faults, as-faults, one-faults, repeat-faults, count-faults, spare-faults, same-faults, all-clean}
 use Rattle.layout.proofs.laws.Make.{number-format, as-format, cells-format}
 use Rattle.wire.specs.Layout.{width, paired, text-count, Text, Shape, one, many, string, undef, shape, Value, Row, device, object, storage, form-byte, list, no-form, reading, Property}
-use Rattle.wire.specs.Codecs.{all-units, units, text, array, shaped, value, row, three, form-write, formed, form, fields, property}
+use Rattle.wire.specs.Codecs.{all-units, units, text, array, shaped, value, row, three, form-write, formed, form, fields, property, enable}
 use Rattle.wire.specs.Faults.{UnitsFault, TextFault, ShapedFault, ValueFault, RowFault, FormedFault, FormFault, PropertyFault}
 use Rattle.wire.specs.Places.{textAt, valueAt, rowAt}
 use Rattle.wire.specs.Says.{saysPart, saysValue}
@@ -27,7 +29,7 @@ use Rattle.wire.specs.Property.{propertyAt, saysProperty}
 use Rattle.wire.specs.declared.property.ReadProperty.{ReadProperty}
 use Rattle.wire.proofs.Described as Described
 use Rattle.wire.proofs.Located as Located
-use Rattle.wire.proofs.Formats.{all-units-format, text-format, value-format, row-format, property-format}
+use Rattle.wire.proofs.Formats.{all-units-format, text-format, value-format, row-format, property-format, enable-format}
 
 -- ── strings ──
 
@@ -75,18 +77,22 @@ formed-faults t (suc (suc (suc n))) = nothing-faults no-form
 form-faults : (t : ℕ) → Faulted (FormFault t) (form t)
 form-faults t = lead-faults (number-format 1) form-byte (number-faults 1) (formed-faults t)
 
-fields-faults : Faulted PropertyFault fields
-fields-faults =
+enable-clean : (there : Bool) → Faulted Clean (enable there)
+enable-clean true = as-faults _ _ (number-faults 1)
+enable-clean false = nothing-faults none
+
+fields-faults : (there : Bool) → Faulted (PropertyFault there) (fields there)
+fields-faults there =
     then-faults (number-format 2) (number-faults 2) λ code.
     then-faults (number-format 2) (number-faults 2) λ type.
     then-faults (number-format 1) (number-faults 1) λ getset.
-    then-faults (number-format 1) (number-faults 1) λ enable.
+    then-faults (enable-format there) (enable-clean there) λ enabled.
     then-faults (value-format type) (value-faults type) λ default.
     then-faults (value-format type) (value-faults type) λ current.
     form-faults type
 
-pub property-faults : Faulted PropertyFault property
-property-faults = as-faults reading _ fields-faults
+pub property-faults : (there : Bool) → Faulted (PropertyFault there) (property there)
+property-faults there = as-faults reading _ (fields-faults there)
 
 -- ── the demand ──
 
@@ -105,8 +111,8 @@ objects = decides (row-format object) (row-faults object)
 pub storages : Decides (Row storage) (RowFault storage) (row storage)
 storages = decides (row-format storage) (row-faults storage)
 
-pub properties : Decides Property PropertyFault property
-properties = decides property-format property-faults
+pub properties : (there : Bool) → Decides (Property there) (PropertyFault there) (property there)
+properties there = decides (property-format there) (property-faults there)
 
 -- ── of the functions' own answers: any answer that a promise allows, at any place, by the bytes from there on ──
 
@@ -126,5 +132,5 @@ module _ (s : List ℕ) (h : Bytes s) (at : ℕ) where
   pub storage-refused : (r : ReadStorage) → saysStorage r ≡ rowAt storage s at → Refuses (Row storage) (RowFault storage) (drop at s) (saysStorage r)
   storage-refused r promised = refuses-exactly (row-format storage) (row-faults storage) (Located.rows storage) s h at (saysStorage r) promised
 
-  pub property-refused : (r : ReadProperty) → saysProperty r ≡ propertyAt s at → Refuses Property PropertyFault (drop at s) (saysProperty r)
-  property-refused r promised = refuses-exactly property-format property-faults Described.properties s h at (saysProperty r) promised
+  pub property-refused : (there : Bool) (r : ReadProperty) → saysProperty r ≡ propertyAt there s at → Refuses (Property there) (PropertyFault there) (drop at s) (saysProperty r)
+  property-refused there r promised = refuses-exactly (property-format there) (property-faults there) (Described.properties there) s h at (saysProperty r) promised

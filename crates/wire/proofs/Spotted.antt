@@ -1,5 +1,7 @@
 -- The place that each refusal of the byte layer is told of: the first field that the bytes are not read as.
 -- Assumes nothing.
+use mathlib.Core.Option.{none}
+use mathlib.Core.Bool.{Bool, true, false}
 use mathlib.Core.Path.{_≡_, refl, ap, sym, _∙_, subst}
 use mathlib.Core.Logic.{_↔_}
 use mathlib.Core.List.{List, [], _∷_, _++_, append-assoc}
@@ -13,9 +15,9 @@ use Rattle.layout.proofs.laws.Final.{lead-faults, number-faults, count-faults, 
 use Rattle.layout.proofs.laws.Make.{number-format}
 use Rattle.layout.proofs.laws.Spotted.{nothing-owned, number-owned, as-owned, field-owned, nothing-spotted, one-spotted, then-spotted, lead-spotted, as-spotted, repeat-spotted, number-spotted, count-spotted, points-exactly}
 use Rattle.wire.specs.Layout.{width, text-count, Text, Shape, one, many, string, undef, shape, Val, Value, Row, device, object, storage, form-byte, list, no-form, reading}
-use Rattle.wire.specs.Codecs.{text, array, shaped, value, row, three, form-write, formed, form, fields, property}
+use Rattle.wire.specs.Codecs.{text, array, shaped, value, row, three, form-write, formed, form, fields, property, enable}
 use Rattle.wire.specs.Faults.{TextFault, ValueFault, RowFault, PropertyFault}
-use Rattle.wire.specs.Spots.{ValueSpot, RowSpot, FormedSpot, FormSpot, PropertySpot}
+use Rattle.wire.specs.Spots.{ValueSpot, RowSpot, FormedSpot, FormSpot, PropertySpot, EnableSpot}
 use Rattle.wire.specs.Places.{textAt, valueAt, rowAt}
 use Rattle.wire.specs.Says.{saysPart, saysValue}
 use Rattle.wire.specs.declared.ReadPart.{ReadPart}
@@ -30,7 +32,7 @@ use Rattle.wire.specs.Property.{propertyAt, saysProperty}
 use Rattle.wire.specs.declared.property.ReadProperty.{ReadProperty}
 use Rattle.wire.proofs.Described as Described
 use Rattle.wire.proofs.Located as Located
-use Rattle.wire.proofs.Formats.{text-format, value-format, row-format, property-format}
+use Rattle.wire.proofs.Formats.{text-format, value-format, row-format, property-format, enable-format}
 use Rattle.wire.proofs.Refusals.{units-faults, text-faults, value-faults, row-faults, property-faults}
 
 -- ── each value is a field ──
@@ -119,18 +121,22 @@ formed-spotted t (suc (suc (suc n))) = nothing-spotted no-form
 form-spotted : (t : ℕ) → Spotted (FormSpot t) (form t)
 form-spotted t = lead-spotted (number-format 1) form-byte (number-spotted 1) (formed-spotted t)
 
-fields-spotted : Spotted PropertySpot fields
-fields-spotted =
+enable-spotted : (there : Bool) → Spotted (EnableSpot there) (enable there)
+enable-spotted true = as-spotted _ _ (number-spotted 1)
+enable-spotted false = nothing-spotted none
+
+fields-spotted : (there : Bool) → Spotted (PropertySpot there) (fields there)
+fields-spotted there =
     then-spotted (number-format 2) (number-spotted 2) λ code.
     then-spotted (number-format 2) (number-spotted 2) λ type.
     then-spotted (number-format 1) (number-spotted 1) λ getset.
-    then-spotted (number-format 1) (number-spotted 1) λ enable.
+    then-spotted (enable-format there) (enable-spotted there) λ enabled.
     then-spotted (value-format type) (value-spotted type) λ default.
     then-spotted (value-format type) (value-spotted type) λ current.
     form-spotted type
 
-pub property-spotted : Spotted PropertySpot property
-property-spotted = as-spotted reading _ fields-spotted
+pub property-spotted : (there : Bool) → Spotted (PropertySpot there) (property there)
+property-spotted there = as-spotted reading _ (fields-spotted there)
 
 -- ── of the functions' own answers: any answer that a promise allows, at any place, by the bytes from there on ──
 
@@ -150,5 +156,5 @@ module _ (s : List ℕ) (h : Bytes s) (at : ℕ) where
   pub storage-points : (r : ReadStorage) → saysStorage r ≡ rowAt storage s at → Points (RowFault storage) (RowSpot storage) (drop at s) at (saysStorage r)
   storage-points r promised = points-exactly (row-format storage) (row-faults storage) (row-spotted storage) (Located.rows storage) s h at (saysStorage r) promised
 
-  pub property-points : (r : ReadProperty) → saysProperty r ≡ propertyAt s at → Points PropertyFault PropertySpot (drop at s) at (saysProperty r)
-  property-points r promised = points-exactly property-format property-faults property-spotted Described.properties s h at (saysProperty r) promised
+  pub property-points : (there : Bool) (r : ReadProperty) → saysProperty r ≡ propertyAt there s at → Points (PropertyFault there) (PropertySpot there) (drop at s) at (saysProperty r)
+  property-points there r promised = points-exactly (property-format there) (property-faults there) (property-spotted there) (Described.properties there) s h at (saysProperty r) promised

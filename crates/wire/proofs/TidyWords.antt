@@ -1,5 +1,7 @@
 -- A description's tidy word, part by part: the writer's word of its reading is made of the tidy words of its values.
 -- Assumes nothing.
+use mathlib.Core.Option.{some, none}
+use mathlib.Core.Bool.{Bool, true, false}
 use mathlib.Core.Path.{_≡_, refl, ap, sym, _∙_}
 use mathlib.Core.List.{List, [], _∷_, _++_, append-assoc, append-nil}
 use Prim.Native.Nat.{ℕ, zero, suc, _+_, _-_, _≤_}
@@ -17,10 +19,10 @@ use borrow.Author.Tests.{ne-eqb}
 use lib.Dec.{eqb}
 use Rattle.wire.specs.Description.{PropInfo}
 use Rattle.wire.specs.Description as placed
-use Rattle.wire.specs.Layout.{Val, shape, Row, Form, Formed, form-byte, FormOf, reading, Fields, Property, Value}
-use Rattle.wire.specs.Codecs.{value, row, three, listed, formed, form, fields, property}
+use Rattle.wire.specs.Layout.{Val, shape, Row, Form, Formed, form-byte, FormOf, reading, Fields, Property, Value, Enable}
+use Rattle.wire.specs.Codecs.{value, row, three, listed, formed, form, fields, property, enable, enable-write}
 use Rattle.wire.specs.Places.{numAt}
-use Rattle.wire.specs.Property.{between, slotAt, valuesAt, rangeAt, listAt, formAt, propertyAt, slotIn, valuesIn, formIn, propertyIn}
+use Rattle.wire.specs.Property.{between, slotAt, valuesAt, rangeAt, listAt, formAt, propertyAt, slotIn, valuesIn, formIn, propertyIn, enableAt}
 use Rattle.wire.specs.Tidy.{rowWord, types}
 use Rattle.wire.specs.TidyProperty.{valuesWord, headerWord, rangeWord, listWord, formWord, propertyWord, Taken, WellForm, Well}
 use Rattle.wire.proofs.Described.{row-values, slot-in, values-in, properties}
@@ -29,9 +31,9 @@ use Rattle.wire.proofs.Values.{shaped-shrinks}
 
 -- ── the sizes ──
 
-pub header-size : (x : PropInfo) → length (headerWord x) ≡ 6
+pub header-size : (x : PropInfo) → length (headerWord x) ≡ 5 + length (enable-write (x .«is_enable»))
 unfolding headerWord bytes
-header-size x = refl
+header-size x = simp length-append
 
 pub range-size : (t : ℕ) (s : List ℕ) (a b c : ℕ) → length (rangeWord t s a b c) ≡ 1 + length (valuesWord t 1 s a) + length (valuesWord t 1 s b) + length (valuesWord t 1 s c)
 unfolding rangeWord bytes
@@ -52,7 +54,7 @@ module _ (s : List ℕ) (x : PropInfo) where
   unfolding propertyWord
   property-word = refl
 
-  pub parts-size : length in-parts ≡ 6 + length (valuesWord type 1 s (x .«factory_default» .start)) + length (valuesWord type 1 s (x .current .start)) + length (formWord type s (x .form))
+  pub parts-size : length in-parts ≡ 5 + length (enable-write (x .«is_enable»)) + length (valuesWord type 1 s (x .«factory_default» .start)) + length (valuesWord type 1 s (x .current .start)) + length (formWord type s (x .form))
   parts-size = simp (length-append, header-size x)
 
 -- ── what was read of a description was read ──
@@ -88,20 +90,20 @@ form-well t s at = holds-after _ (anything (numAt 1 s at)) λ b p _. by b p
     by (suc (suc zero)) p = holds-after _ (anything (numAt 2 s p)) λ n q _. holds-after _ (values-taken t n s q) λ y m h. holds (placed.list y n) m h
     by (suc (suc (suc n))) p = rw (ne-eqb (suc (suc (suc n))) 1 (λ e. omega arith), ne-eqb (suc (suc (suc n))) 2 (λ e. omega arith)) (holds placed.absent p tt)
 
-property-well : (s : List ℕ) (at : ℕ) → Holds (Well s) (propertyAt s at)
+property-well : (there : Bool) (s : List ℕ) (at : ℕ) → Holds (Well s) (propertyAt there s at)
 unfolding propertyAt
-property-well s at =
+property-well there s at =
     holds-after _ (anything (numAt 2 s at)) λ _ a _.
     holds-after _ (anything (numAt 2 s a)) λ t b _.
     holds-after _ (anything (numAt 1 s b)) λ _ c _.
-    holds-after _ (anything (numAt 1 s c)) λ _ d _.
+    holds-after _ (anything (enableAt there s c)) λ _ d _.
     holds-after _ (values-taken t 1 s d) λ _ e h.
     holds-after _ (values-taken t 1 s e) λ _ f i.
     holds-after _ (form-well t s f) λ _ n j.
     holds _ n (record { default = h; current = i; form = j })
 
-pub well-read : (s : List ℕ) (at : ℕ) (x : PropInfo) (n : ℕ) → got x n ≡ propertyAt s at → Well s x
-well-read s at x n e = go (propertyAt s at) (property-well s at) e
+pub well-read : (there : Bool) (s : List ℕ) (at : ℕ) (x : PropInfo) (n : ℕ) → got x n ≡ propertyAt there s at → Well s x
+well-read there s at x n e = go (propertyAt there s at) (property-well there s at) e
   where
     go : (y : Answer PropInfo) → Holds (Well s) y → got x n ≡ y → Well s x
     go (got z m) (holds l k h) e = let f : x ≡ z = cc in rw f h
@@ -152,34 +154,39 @@ form-word t s at = holds-after _ (anything (numAt 1 s at)) λ b p _. by b p
     by (suc (suc zero)) p = holds-after _ (anything (numAt 2 s p)) λ n q _. holds-after _ (list-word t n s q) λ y m h. holds (placed.list y n) m (rw h (simp append-assoc))
     by (suc (suc (suc n))) p = rw (ne-eqb (suc (suc (suc n))) 1 (λ e. omega arith), ne-eqb (suc (suc (suc n))) 2 (λ e. omega arith)) (holds placed.absent p (append-nil (bytes 1 0)))
 
-words : (s : List ℕ) (at : ℕ) → Holds (λ x. property .write (propertyIn s x) ≡ propertyWord s x) (propertyAt s at)
+enable-word : (there : Bool) (s : List ℕ) (at : ℕ) → Holds (λ e. (enable there) .write e ≡ enable-write e) (enableAt there s at)
+unfolding enableAt
+enable-word true s at = holds-after _ (anything (numAt 1 s at)) λ v n _. holds (some v) n refl
+enable-word false s at = holds none at refl
+
+words : (there : Bool) (s : List ℕ) (at : ℕ) → Holds (λ x. (property there) .write (propertyIn s x) ≡ propertyWord s x) (propertyAt there s at)
 unfolding propertyAt propertyWord headerWord
-words s at =
+words there s at =
     holds-after _ (anything (numAt 2 s at)) λ _ a _.
     holds-after _ (anything (numAt 2 s a)) λ t b _.
     holds-after _ (anything (numAt 1 s b)) λ _ c _.
-    holds-after _ (anything (numAt 1 s c)) λ _ d _.
+    holds-after _ (enable-word there s c) λ _ d g.
     holds-after _ (slot-word t s d) λ _ e h.
     holds-after _ (slot-word t s e) λ _ f i.
     holds-after _ (form-word t s f) λ _ n j.
-    holds _ n (rw (h, i, j) (simp append-assoc))
+    holds _ n (rw (g, h, i, j) (simp append-assoc))
 
-word-read : (s : List ℕ) (x : PropInfo) (n : ℕ) → got x n ≡ propertyAt s 0 → means (property .write) (property .read s 0) ≡ got (propertyWord s x) n
+word-read : (there : Bool) (s : List ℕ) (x : PropInfo) (n : ℕ) → got x n ≡ propertyAt there s 0 → means ((property there) .write) ((property there) .read s 0) ≡ got (propertyWord s x) n
 unfolding means
-word-read s x n e = rw (← properties .agrees s 0, ← e) (ap (λ w. got w n) (go (propertyAt s 0) (words s 0) e))
+word-read there s x n e = rw (← (properties there) .agrees s 0, ← e) (ap (λ w. got w n) (go (propertyAt there s 0) (words there s 0) e))
   where
-    go : (y : Answer PropInfo) → Holds (λ x. property .write (propertyIn s x) ≡ propertyWord s x) y → got x n ≡ y → property .write (propertyIn s x) ≡ propertyWord s x
+    go : (y : Answer PropInfo) → Holds (λ x. (property there) .write (propertyIn s x) ≡ propertyWord s x) y → got x n ≡ y → (property there) .write (propertyIn s x) ≡ propertyWord s x
     go (got z m) (holds l k h) e = let f : x ≡ z = cc in rw f h
     go (refused u) not-read e = zero-one (cc)
 
 -- what the tidy writer has to say of it
-pub said-property : (s : List ℕ) (x : PropInfo) (n : ℕ) → got x n ≡ propertyAt s 0 → tidied property s ≡ says (propertyWord s x)
+pub said-property : (there : Bool) (s : List ℕ) (x : PropInfo) (n : ℕ) → got x n ≡ propertyAt there s 0 → tidied (property there) s ≡ says (propertyWord s x)
 unfolding saidOf
-said-property s x n e = ap saidOf (word-read s x n e)
+said-property there s x n e = ap saidOf (word-read there s x n e)
 
-pub said-no-property : (s : List ℕ) (t : Told) → refused t ≡ propertyAt s 0 → tidied property s ≡ no t
+pub said-no-property : (there : Bool) (s : List ℕ) (t : Told) → refused t ≡ propertyAt there s 0 → tidied (property there) s ≡ no t
 unfolding means saidOf
-said-no-property s t e = rw (← properties .agrees s 0, ← e)
+said-no-property there s t e = rw (← (properties there) .agrees s 0, ← e)
 
 -- ── tidy rows are no longer than what was read ──
 
@@ -212,21 +219,25 @@ form-shrinks t = record { small = go }
     go w f (lead {u} {v} {a} g e h) =
         omega (arith, length-append u v, length-append (bytes 1 (form-byte f)) ((formed t (form-byte f)) .write f), length-bytes 1 (form-byte f), num-size 1 u a g .0, formed-shrinks t a v f h)
 
-fields-shrinks : Shrinks Fields fields
-fields-shrinks =
+enable-shrinks : (there : Bool) → Shrinks (Enable there) (enable there)
+enable-shrinks true = as-shrinks some _ (number-shrinks 1) λ a. refl
+enable-shrinks false = nothing-shrinks none
+
+fields-shrinks : (there : Bool) → Shrinks (Fields there) (fields there)
+fields-shrinks there =
     then-shrinks (number-shrinks 2) λ _.
     then-shrinks (number-shrinks 2) λ t.
     then-shrinks (number-shrinks 1) λ _.
-    then-shrinks (number-shrinks 1) λ _.
+    then-shrinks (enable-shrinks there) λ _.
     then-shrinks (shaped-shrinks (shape t)) λ _.
     then-shrinks (shaped-shrinks (shape t)) λ _.
     form-shrinks t
 
-property-shrinks : Shrinks Property property
-property-shrinks = as-shrinks reading _ fields-shrinks λ a. refl
+property-shrinks : (there : Bool) → Shrinks (Property there) (property there)
+property-shrinks there = as-shrinks reading _ (fields-shrinks there) λ a. refl
 
-pub property-bound : (s : List ℕ) → Bytes s → (x : PropInfo) (n : ℕ) → got x n ≡ propertyAt s 0 → length (propertyWord s x) ≤ length s
+pub property-bound : (there : Bool) (s : List ℕ) → Bytes s → (x : PropInfo) (n : ℕ) → got x n ≡ propertyAt there s 0 → length (propertyWord s x) ≤ length s
 unfolding means
-property-bound s h x n e =
-    let k = shrunk property-format property-shrinks s h 0 (length (propertyWord s x)) n (sym (ap (means length) (word-read s x n e))) in
+property-bound there s h x n e =
+    let k = shrunk (property-format there) (property-shrinks there) s h 0 (length (propertyWord s x)) n (sym (ap (means length) (word-read there s x n e))) in
     omega arith

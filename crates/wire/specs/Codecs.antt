@@ -1,6 +1,8 @@
 -- A reader and a tidy writer for each layout of the byte layer. That each is faithful to its layout is proved in proofs/Formats.
 -- Assumes nothing.
+use mathlib.Core.Bool.{Bool, true, false}
 use mathlib.Core.List.{List, [], _∷_, map}
+use mathlib.Core.Option.{Option, some, none}
 use Prim.Native.Nat.{ℕ, zero, suc, _+_, _-_, _*_, _^_}
 use lib.IntN.{ℤ, pos, negsuc}
 use Rattle.layout.specs.Answer.{badText}
@@ -91,15 +93,23 @@ formed t (suc (suc (suc n))) = nothing no-form
 abbrev pub form : ℕ → Codec Form
 form t = leading (numbered 1) form-byte (formed t)
 
-abbrev pub fields : Codec Parts
-fields =
+abbrev pub enable-write : Option ℕ → List ℕ
+enable-write (some n) = bytes 1 n
+enable-write none = []
+
+abbrev pub enable : Bool → Codec (Option ℕ)
+enable true = through some (numbered 1) enable-write
+enable false = nothing none
+
+abbrev pub fields : Bool → Codec Parts
+fields there =
     numbered 2 and λ code.
     numbered 2 and λ type.
     numbered 1 and λ getset.
-    numbered 1 and λ enable.
+    enable there and λ enabled.
     value type and λ default.
     value type and λ current.
     form type
 
-abbrev pub property : Codec Reading
-property = through reading fields (λ r. fields .write (parts r))
+abbrev pub property : Bool → Codec Reading
+property there = through reading (fields there) (λ r. (fields there) .write (parts r))

@@ -1,5 +1,6 @@
 -- A property's description to this paper, by its places: its numbers, where its values stand, and its form.
 -- Assumes nothing.
+use mathlib.Core.Option.{Option}
 use Prim.Native.Nat.{ℕ}
 use Rattle.wire.specs.declared.property.Slot.{Slot}
 
@@ -13,7 +14,7 @@ pub record PropInfo : Type 0 where
   pub «property_code» : ℕ
   pub «data_type» : ℕ
   pub «get_set» : ℕ
-  pub «is_enable» : ℕ
+  pub «is_enable» : Option ℕ
   pub «factory_default» : Slot
   pub current : Slot
   pub form : Form

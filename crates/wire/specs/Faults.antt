@@ -2,11 +2,12 @@
 -- Only strings are tested. A string is a fault if it is whole, its last unit too, and a surrogate among its units is unpaired;
 -- a record is one if it begins with fields that are words, and then such a string, whatever follows.
 -- Assumes nothing.
+use mathlib.Core.Bool.{Bool}
 use mathlib.Core.List.{List, [], _∷_}
 use Prim.Native.Nat.{ℕ, zero, suc}
 use Rattle.layout.specs.Fault.{Fault, Clean, Fails, Along, Counts}
 use Rattle.layout.specs.Grammar.{Number, _then_, As, Repeat, Spare}
-use Rattle.wire.specs.Layout.{paired, Shape, one, many, string, undef, shape, Value}
+use Rattle.wire.specs.Layout.{paired, Shape, one, many, string, undef, shape, Value, Enable}
 
 -- ── strings: Units and Text, with the test failed ──
 
@@ -45,12 +46,12 @@ FormedFault t (suc (suc (suc n))) = Clean
 abbrev pub FormFault : ℕ → Fault
 FormFault t = Along (Number 1) Clean (FormedFault t)
 
-abbrev pub PropertyFault : Fault
-PropertyFault =
+abbrev pub PropertyFault : Bool → Fault
+PropertyFault there =
     Along (Number 2) Clean λ code.
     Along (Number 2) Clean λ type.
     Along (Number 1) Clean λ getset.
-    Along (Number 1) Clean λ enable.
+    Along (Enable there) Clean λ enable.
     Along (Value type) (ValueFault type) λ default.
     Along (Value type) (ValueFault type) λ current.
     FormFault type

@@ -1,6 +1,7 @@
 -- A description's list: its n-th value, where it stands, and what a step finds.
 -- Assumes nothing.
 use mathlib.Core.Path.{_≡_}
+use mathlib.Core.Bool.{Bool}
 use mathlib.Core.List.{List}
 use Prim.Native.Nat.{ℕ, _-_}
 use lib.Dec.{eqb, ltb}
@@ -34,8 +35,8 @@ nthIn n t (form.list p count) s = pick (ltb n count) (nthValue t n s (p .start))
 nthIn n t (form.range a b c) s = refused (bare PLACE)
 nthIn n t form.absent s = refused (bare PLACE)
 
-unfoldable pub nthAt : ℕ → List ℕ → Answer (Located × Slot)
-nthAt n s = after (propertyAt s 0) λ x _. nthIn n (x .«data_type») (x .form) s
+unfoldable pub nthAt : Bool → ℕ → List ℕ → Answer (Located × Slot)
+nthAt there n s = after (propertyAt there s 0) λ x _. nthIn n (x .«data_type») (x .form) s
 
 abbrev pub saysNth : ReadNth → Answer (Located × Slot)
 saysNth (readNth.Got v p c) = got (located v, p) (c .at)
@@ -53,8 +54,8 @@ abbrev pub placeFrom : Answer PropInfo → Place
 placeFrom (got x n) = placeIn (x .«data_type») (x .form)
 placeFrom (refused t) = record { ty = 0; at = t .at; left = 0; refusal = t .no }
 
-abbrev pub placeOf : List ℕ → Place
-placeOf s = placeFrom (propertyAt s 0)
+abbrev pub placeOf : Bool → List ℕ → Place
+placeOf there s = placeFrom (propertyAt there s 0)
 
 -- the list over src from a place on
 abbrev pub listAt : RefT (List ℕ) → Place → Values

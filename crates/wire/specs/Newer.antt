@@ -31,12 +31,12 @@ abbrev pub newerFrom : Answer PropInfo → List ℕ → Chosen
 newerFrom (refused t) payload = record { «of_payload» = false; start = 0; len = 0 }
 newerFrom (got x n) payload = pick (fills (x .«data_type») payload) (fresh payload) (present x)
 
-abbrev pub newerOf : List ℕ → List ℕ → Chosen
-newerOf description payload = newerFrom (propertyAt description 0) payload
+abbrev pub newerOf : Bool → List ℕ → List ℕ → Chosen
+newerOf there description payload = newerFrom (propertyAt there description 0) payload
 
 -- the bytes of that part
 abbrev pub newerPart : Chosen → List ℕ → List ℕ → List ℕ
 newerPart n description payload = take (n .len) (drop (n .start) (pick (n .«of_payload») payload description))
 
-abbrev pub newerBytes : List ℕ → List ℕ → List ℕ
-newerBytes description payload = newerPart (newerOf description payload) description payload
+abbrev pub newerBytes : Bool → List ℕ → List ℕ → List ℕ
+newerBytes there description payload = newerPart (newerOf there description payload) description payload

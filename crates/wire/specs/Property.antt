@@ -1,6 +1,8 @@
 -- A property's description as the code answers it, and what it means.
 -- Assumes nothing.
+use mathlib.Core.Bool.{Bool, true, false}
 use mathlib.Core.List.{List, [], _∷_}
+use mathlib.Core.Option.{Option, some, none}
 use Prim.Native.Nat.{ℕ, _-_}
 use lib.Dec.{eqb}
 use lib.ListN.{take, drop}
@@ -14,6 +16,10 @@ use Rattle.wire.specs.Description as form
 use Rattle.wire.specs.Description.{PropInfo}
 use Rattle.wire.specs.declared.property.Form as declared
 use Rattle.wire.specs.declared.property.Form.the-variants as variants
+use Rattle.wire.specs.declared.property.PropLayout.{PropLayout}
+use Rattle.wire.specs.declared.property.PropLayout.the-variants as layouts
+use Rattle.wire.specs.declared.property.Enable as declared-enable
+use Rattle.wire.specs.declared.property.Enable.the-variants as enables
 use Rattle.wire.specs.declared.property.PropInfo as declared-info
 use Rattle.wire.specs.declared.property.ReadProperty.{ReadProperty}
 use Rattle.wire.specs.declared.property.ReadProperty.the-variants as readProperty
@@ -52,13 +58,18 @@ formAt t s at =
     after (numAt 1 s at) λ b p.
     pick (eqb b 1) (rangeAt t s p) (pick (eqb b 2) (listAt t s p) (got form.absent p))
 
+-- the `IsEnable` byte, where the layout has it
+unfoldable pub enableAt : Bool → Reader (Option ℕ)
+enableAt true s at = after (numAt 1 s at) λ n next. got (some n) next
+enableAt false s at = got none at
+
 -- field by field, in the layout's order
-unfoldable pub propertyAt : Reader PropInfo
-propertyAt s at =
+unfoldable pub propertyAt : Bool → Reader PropInfo
+propertyAt there s at =
     after (numAt 2 s at) λ code a.
     after (numAt 2 s a) λ type b.
     after (numAt 1 s b) λ access c.
-    after (numAt 1 s c) λ enable d.
+    after (enableAt there s c) λ enable d.
     after (slotAt type s d) λ default e.
     after (slotAt type s e) λ current f.
     after (formAt type s f) λ shape next.
@@ -79,12 +90,21 @@ saysForm variants.Absent = form.absent
 saysForm (variants.Range a b c) = form.range a b c
 saysForm (variants.List p n) = form.list p n
 
+-- whether a description of the layout has the byte
+abbrev pub hasEnable : PropLayout → Bool
+hasEnable layouts.Crate = true
+hasEnable layouts.Book = false
+
+abbrev pub saysEnable : declared-enable.Enable → Option ℕ
+saysEnable (enables.There n) = some n
+saysEnable enables.Absent = none
+
 abbrev pub infoFrom : declared-info.PropInfo → PropInfo
 infoFrom x = record {
   «property_code» = x .«property_code»;
   «data_type» = x .«data_type»;
   «get_set» = x .«get_set»;
-  «is_enable» = x .«is_enable»;
+  «is_enable» = saysEnable (x .«is_enable»);
   «factory_default» = x .«factory_default»;
   current = x .current;
   form = saysForm (x .form);

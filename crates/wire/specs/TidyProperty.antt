@@ -6,6 +6,7 @@ use mathlib.Core.List.{List, [], _∷_, _++_}
 use Prim.Native.Nat.{ℕ}
 use Rattle.layout.specs.Bytes.{bytes}
 use Rattle.layout.specs.Written.{took, spelling}
+use Rattle.wire.specs.Codecs.{enable-write}
 use Rattle.wire.specs.Tidy.{rowWord, types}
 use Rattle.wire.specs.Description.{Form, PropInfo}
 use Rattle.wire.specs.Description as form
@@ -15,7 +16,7 @@ abbrev pub valuesWord : ℕ → ℕ → List ℕ → ℕ → List ℕ
 valuesWord t n s at = spelling (rowWord (types (t ∷ []) n) s at)
 
 unfoldable pub headerWord : PropInfo → List ℕ
-headerWord x = bytes 2 (x .«property_code») ++ bytes 2 (x .«data_type») ++ bytes 1 (x .«get_set») ++ bytes 1 (x .«is_enable»)
+headerWord x = bytes 2 (x .«property_code») ++ bytes 2 (x .«data_type») ++ bytes 1 (x .«get_set») ++ enable-write (x .«is_enable»)
 
 unfoldable pub rangeWord : ℕ → List ℕ → ℕ → ℕ → ℕ → List ℕ
 rangeWord t s a b c = bytes 1 1 ++ valuesWord t 1 s a ++ valuesWord t 1 s b ++ valuesWord t 1 s c

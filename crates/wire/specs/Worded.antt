@@ -1,6 +1,7 @@
 -- What the bytes of an answer's parts are, of a value, a record and a property's description. Each part lies in the bytes and is as a whole, from its first byte to its last, a word of the
 -- layout with the reading's own value, which a longer or a shorter part is not; and each begins where the one before it ends. No reader stands here.
 -- Assumes nothing.
+use Rattle.wire.specs.Codecs.{enable-write}
 use mathlib.Core.Path.{_≡_}
 use mathlib.Core.List.{List, [], _∷_, map}
 use Prim.Native.Nat.{ℕ, _+_, _*_, _≤_, _<_}
@@ -77,7 +78,7 @@ FormInOrder at n form.absent = n ≡ at + 1
 
 -- the parts follow each other, behind the four numbers, without a gap
 pub record InOrder (x : PropInfo) (n : ℕ) : Type 0 where
-  pub default : x .«factory_default» .start ≡ 6
+  pub default : x .«factory_default» .start ≡ 5 + length (enable-write (x .«is_enable»))
   pub current : x .current .start ≡ ends (x .«factory_default»)
   pub form : FormInOrder (ends (x .current)) n (x .form)
 

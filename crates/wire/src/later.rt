@@ -1,8 +1,10 @@
 // The newer value: the later payload where that is one whole value, else the description's current value.
 ghost use mathlib.Core.Path.{_≡_};
+ghost use Rattle.wire.specs.Property.{hasEnable};
 ghost use Rattle.wire.specs.Newer.{fills, newerOf, newerBytes};
 use crate::Cursor;
 use crate::property;
+use crate::property::PropLayout;
 use crate::property::ReadProperty;
 use crate::value::ReadValue;
 
@@ -26,10 +28,10 @@ fn fills(s: &[u8], code: u16) -> bool
     }
 }
 
-pub fn newer_place(description: &[u8], payload: &[u8]) -> Chosen
-    ensures { λ r. ⌜ r ≡ newerOf (now (description .entry)) (now (payload .entry)) ⌝ }
+pub fn newer_place(l: PropLayout, description: &[u8], payload: &[u8]) -> Chosen
+    ensures { λ r. ⌜ r ≡ newerOf (hasEnable l) (now (description .entry)) (now (payload .entry)) ⌝ }
 {
-    match property::property_info(description, Cursor { at: 0 }) {
+    match property::property_info(l, description, Cursor { at: 0 }) {
         ReadProperty::Refused(_) => Chosen {
             of_payload: false,
             start: 0,
@@ -54,10 +56,10 @@ pub fn newer_place(description: &[u8], payload: &[u8]) -> Chosen
 }
 
 // The part itself.
-pub fn newer<'a>(description: &'a [u8], payload: &'a [u8]) -> &'a [u8]
-    ensures { λ r. ⌜ now r ≡ newerBytes (now (description .entry)) (now (payload .entry)) ⌝ }
+pub fn newer<'a>(l: PropLayout, description: &'a [u8], payload: &'a [u8]) -> &'a [u8]
+    ensures { λ r. ⌜ now r ≡ newerBytes (hasEnable l) (now (description .entry)) (now (payload .entry)) ⌝ }
 {
-    let n = newer_place(description, payload);
+    let n = newer_place(l, description, payload);
     let start = n.start;
     let end = n.start + n.len;
     if n.of_payload {

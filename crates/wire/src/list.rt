@@ -1,12 +1,13 @@
 // A description's list: its n-th value; and the list handed out, a step at a time.
 ghost use mathlib.Core.Path.{_≡_};
 ghost use Rattle.wire.specs.List.{nthIn, nthValue, valueSlot, nthAt, saysNth, placeIn, placeOf, stepAt, saysStep, listAt, Nexts, Moves};
-ghost use Rattle.wire.specs.Property.{saysForm};
+ghost use Rattle.wire.specs.Property.{hasEnable, saysForm};
 use crate::Cursor;
 use crate::Span;
 use crate::past;
 use crate::property;
 use crate::property::Form;
+use crate::property::PropLayout;
 use crate::property::ReadProperty;
 use crate::property::Slot;
 use crate::value::ReadValue;
@@ -65,10 +66,10 @@ fn nth_of(f: Form, code: u16, s: &[u8], n: usize) -> ReadNth
 }
 
 // The n-th value, from 0, of the list of the description that the bytes begin with.
-pub fn nth(s: &[u8], n: usize) -> ReadNth
-    ensures { λ r. ⌜ saysNth r ≡ nthAt n (now (s .entry)) ⌝ }
+pub fn nth(l: PropLayout, s: &[u8], n: usize) -> ReadNth
+    ensures { λ r. ⌜ saysNth r ≡ nthAt (hasEnable l) n (now (s .entry)) ⌝ }
 {
-    match property::property_info(s, Cursor { at: 0 }) {
+    match property::property_info(l, s, Cursor { at: 0 }) {
         ReadProperty::Got(p, _) => {
             let form = p.form;
             nth_of(form, p.data_type, s, n)
@@ -116,10 +117,10 @@ fn place_in(f: Form, ty: u16) -> Place
     }
 }
 
-pub fn place_of(s: &[u8]) -> Place
-    ensures { λ r. ⌜ r ≡ placeOf (now (s .entry)) ⌝ }
+pub fn place_of(l: PropLayout, s: &[u8]) -> Place
+    ensures { λ r. ⌜ r ≡ placeOf (hasEnable l) (now (s .entry)) ⌝ }
 {
-    match property::property_info(s, Cursor { at: 0 }) {
+    match property::property_info(l, s, Cursor { at: 0 }) {
         ReadProperty::Got(p, _) => {
             let form = p.form;
             place_in(form, p.data_type)
@@ -157,10 +158,10 @@ pub struct Values<'a> {
     pub refusal: u8,
 }
 
-pub fn list_of<'a>(src: &'a [u8]) -> Values<'a>
-    ensures { λ r. ⌜ r ≡ listAt (src .entry) (placeOf (now (src .entry))) ⌝ }
+pub fn list_of<'a>(l: PropLayout, src: &'a [u8]) -> Values<'a>
+    ensures { λ r. ⌜ r ≡ listAt (src .entry) (placeOf (hasEnable l) (now (src .entry))) ⌝ }
 {
-    let p = place_of(src);
+    let p = place_of(l, src);
     Values {
         src,
         ty: p.ty,

@@ -2,13 +2,25 @@
 ghost use mathlib.Core.Path.{_≡_};
 ghost use Rattle.layout.specs.Answer.{after};
 ghost use Rattle.wire.specs.Says.{ran, here};
-ghost use Rattle.wire.specs.Property.{valuesAt, rangeAt, listAt, formAt, propertyAt, saysForm, saysProperty};
+ghost use Rattle.wire.specs.Property.{valuesAt, rangeAt, listAt, formAt, enableAt, propertyAt, hasEnable, saysEnable, saysForm, saysProperty};
 use crate::Cursor;
 use crate::Span;
 use crate::past;
 use crate::run;
 use crate::run::Run;
 use layout::Refusal;
+
+// Which layout a description has: the crate's, with an `IsEnable` byte, or the book's, without. The caller names it: some bytes fit both.
+pub enum PropLayout {
+    Crate,
+    Book,
+}
+
+// The `IsEnable` byte, where the layout has it.
+pub enum Enable {
+    There(u8),
+    Absent,
+}
 
 // The bytes of a value, or of several.
 pub struct Slot {
@@ -27,7 +39,7 @@ pub struct PropInfo {
     pub property_code: u16,
     pub data_type: u16,
     pub get_set: u8,
-    pub is_enable: u8,
+    pub is_enable: Enable,
     pub factory_default: Slot,
     pub current: Slot,
     pub form: Form,
@@ -36,6 +48,11 @@ pub struct PropInfo {
 pub enum ReadProperty {
     Got(PropInfo, Cursor),
     Refused(Refusal),
+}
+
+pub struct RunEnable {
+    pub v: Enable,
+    pub run: Run,
 }
 
 pub struct RunSlot {
@@ -48,7 +65,34 @@ pub struct RunForm {
     pub run: Run,
 }
 
+fn has_enable(l: PropLayout) -> bool
+    ensures { λ r. ⌜ r ≡ hasEnable l ⌝ }
+{
+    match l {
+        PropLayout::Crate => true,
+        PropLayout::Book => false,
+    }
+}
+
 impl Run {
+    // The `IsEnable` byte, where it is there.
+    fn flag(self, s: &[u8], there: bool) -> RunEnable
+        ensures { λ o. ⌜ ran (o .run) (saysEnable (o .v)) ≡ after (here self) (λ _ p. enableAt there (now (s .entry)) p) ⌝ }
+    {
+        if !there {
+            return RunEnable {
+                v: Enable::Absent,
+                run: self,
+            };
+        }
+        let byte = self.number(s, 1);
+        let run = byte.run;
+        RunEnable {
+            v: Enable::There(byte.v as u8),
+            run,
+        }
+    }
+
     // The bytes of n values of a type.
     fn values(self, s: &[u8], code: u16, n: usize) -> RunSlot
         ensures { λ o. ⌜ ran (o .run) (o .v) ≡ after (here self) (λ _ p. valuesAt code n (now (s .entry)) p) ⌝ }
@@ -129,13 +173,13 @@ impl Run {
     }
 }
 
-pub fn property_info(s: &[u8], c: Cursor) -> ReadProperty
-    ensures { λ r. ⌜ saysProperty r ≡ propertyAt (now (s .entry)) (c .at) ⌝ }
+pub fn property_info(l: PropLayout, s: &[u8], c: Cursor) -> ReadProperty
+    ensures { λ r. ⌜ saysProperty r ≡ propertyAt (hasEnable l) (now (s .entry)) (c .at) ⌝ }
 {
     let code = run::going(c).number(s, 2);
     let kind = code.run.number(s, 2);
     let access = kind.run.number(s, 1);
-    let enable = access.run.number(s, 1);
+    let enable = access.run.flag(s, has_enable(l));
     let data_type = kind.v as u16;
     let first = enable.run.values(s, data_type, 1);
     let present = first.run.values(s, data_type, 1);
@@ -143,6 +187,7 @@ pub fn property_info(s: &[u8], c: Cursor) -> ReadProperty
     let end = shape.run;
     let next = end.next;
     let why = end.why;
+    let is_enable = enable.v;
     let factory_default = first.v;
     let current = present.v;
     let form = shape.v;
@@ -152,7 +197,7 @@ pub fn property_info(s: &[u8], c: Cursor) -> ReadProperty
                 property_code: code.v as u16,
                 data_type,
                 get_set: access.v as u8,
-                is_enable: enable.v as u8,
+                is_enable,
                 factory_default,
                 current,
                 form,

@@ -4,15 +4,17 @@ ghost use mathlib.Core.Bool.{true};
 ghost use mathlib.Core.List.{[], _∷_};
 ghost use Prim.Native.Nat.{_+_, _-_, _≤_};
 ghost use lib.ListN.{length};
-ghost use Rattle.layout.specs.Written.{Wrote, Put, spelling, took, tidied, saysWritten};
-ghost use Rattle.wire.specs.Codecs.{property};
-ghost use Rattle.wire.specs.Property.{saysForm, infoFrom};
+ghost use Rattle.layout.specs.Written.{Wrote, Put, roomed, spelling, took, tidied, saysWritten};
+ghost use Rattle.wire.specs.Codecs.{enable-write, property};
+ghost use Rattle.wire.specs.Property.{hasEnable, saysEnable, saysForm, infoFrom};
 ghost use Rattle.wire.specs.Tidy.{rowWord, types};
 ghost use Rattle.wire.specs.TidyProperty.{headerWord, rangeWord, listWord, formWord, propertyWord, Well3, WellForm, Well};
 use crate::Cursor;
 use crate::property;
+use crate::property::Enable;
 use crate::property::Form;
 use crate::property::PropInfo;
+use crate::property::PropLayout;
 use crate::property::ReadProperty;
 use crate::row;
 use crate::write::Measured;
@@ -94,19 +96,40 @@ fn property_len(p: PropInfo, src: &[u8]) -> usize
     let code = p.data_type;
     let default = values_len(code, 1, src, p.factory_default.start);
     let current = values_len(code, 1, src, p.current.start);
+    let enable = p.is_enable;
     let form = p.form;
-    6 + default + current + form_len(form, code, src)
+    5 + enable_len(enable) + default + current + form_len(form, code, src)
 }
 
-// Two numbers of two bytes, and two of one.
+// How many bytes the `IsEnable` byte is: one, or none.
+fn enable_len(e: Enable) -> usize
+    ensures { λ r. ⌜ r ≡ length (enable-write (saysEnable e)) ⌝ }
+{
+    match e {
+        Enable::There(_) => 1,
+        Enable::Absent => 0,
+    }
+}
+
+fn put_enable(e: Enable, out: &mut [u8], o: usize) -> usize
+    ensures { λ r. ⌜ Put (now (out .entry)) o (roomed (now (out .entry)) o (enable-write (saysEnable e))) (now (out .exit)) r ⌝ }
+{
+    match e {
+        Enable::There(b) => layout::store(out, o, 1, b as u64),
+        Enable::Absent => o,
+    }
+}
+
+// Two numbers of two bytes, one of one, and the byte that may be absent.
 fn put_header(p: PropInfo, out: &mut [u8]) -> usize
-    requires { ⌜ 6 ≤ length (now out) ⌝ }
+    requires { ⌜ length (headerWord (infoFrom p)) ≤ length (now out) ⌝ }
     ensures { λ r. ⌜ Put (now (out .entry)) 0 (headerWord (infoFrom p)) (now (out .exit)) r ⌝ }
 {
     let a = layout::store(out, 0, 2, p.property_code as u64);
     let b = layout::store(out, a, 2, p.data_type as u64);
     let c = layout::store(out, b, 1, p.get_set as u64);
-    layout::store(out, c, 1, p.is_enable as u64)
+    let enable = p.is_enable;
+    put_enable(enable, out, c)
 }
 
 fn put_property(p: PropInfo, src: &[u8], out: &mut [u8]) -> usize
@@ -123,10 +146,10 @@ fn put_property(p: PropInfo, src: &[u8], out: &mut [u8]) -> usize
 }
 
 // The tidy word of the description that the bytes begin with.
-pub fn tidy_property(src: &[u8], out: &mut [u8]) -> Written
-    ensures { λ r. ⌜ Wrote (tidied property (now (src .entry))) (now (out .entry)) (saysWritten r) (now (out .exit)) ⌝ }
+pub fn tidy_property(l: PropLayout, src: &[u8], out: &mut [u8]) -> Written
+    ensures { λ r. ⌜ Wrote (tidied (property (hasEnable l)) (now (src .entry))) (now (out .entry)) (saysWritten r) (now (out .exit)) ⌝ }
 {
-    match property::property_info(src, Cursor { at: 0 }) {
+    match property::property_info(l, src, Cursor { at: 0 }) {
         ReadProperty::Refused(f) => Written::Refused(f),
         ReadProperty::Got(p, _) => {
             if out.len() < property_len(p, src) {

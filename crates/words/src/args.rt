@@ -1,6 +1,6 @@
 // A question's words, read by its signature: a letter a word.
 // 1 2 4 8: a number of so many bytes; r: a room; b: bytes; h: a list of 16-bit numbers, of which there is one at most; n: of 32-bit
-// ones, as many as are lent room; w: as it stands.
+// ones, as many as are lent room; l: a description's layout, `crate` or `book`; w: as it stands.
 use crate::list;
 use crate::number;
 use crate::slice;
@@ -8,7 +8,7 @@ use crate::slice;
 // The numbers of a list at most.
 pub const MOST_NUMBERS: usize = 4096;
 
-// Of each word, in order, a number and a count: a number's value; where bytes, a list or a word start, and how many they are. Of the
+// Of each word, in order, a number and a count: a number's value; 1 for `book` and 0 for `crate`; where bytes, a list or a word start, and how many they are. Of the
 // last bytes or word, and of the room, again by name.
 pub struct Args {
     pub numbers: [usize; 8],
@@ -48,6 +48,15 @@ fn a_number(letter: u8, w: &[u8]) -> Got {
     }
 }
 
+fn a_layout(w: &[u8]) -> Got {
+    let is_book = slice::same(w, b"book");
+    Got {
+        number: is_book as usize,
+        count: 0,
+        ok: is_book || slice::same(w, b"crate"),
+    }
+}
+
 fn one(
     letter: u8,
     w: &mut [u8],
@@ -81,6 +90,7 @@ fn one(
                 ok: n.ok,
             }
         }
+        b'l' => a_layout(w),
         b'w' => Got {
             number: start,
             count: w.len(),

@@ -1,6 +1,8 @@
 //! Datasets, and what the panel asks of a property.
 use super::{show, words};
-use ptp_proved::{newer_value, tidy_property, Newer, PtpDeviceInfo, PtpFormData, PtpObjectInfo, PtpPropInfo, PtpStorageInfo};
+use ptp_proved::{
+    newer_value, tidy_property, Newer, PropLayout, PtpDeviceInfo, PtpFormData, PtpObjectInfo, PtpPropInfo, PtpStorageInfo,
+};
 
 pub fn device(s: &str) -> Option<String> {
     let s = words::bytes(s)?;
@@ -74,9 +76,18 @@ pub fn storage(s: &str) -> Option<String> {
     ))
 }
 
-pub fn property(s: &str) -> Option<String> {
+pub fn layout_of(word: &str) -> Option<PropLayout> {
+    match word {
+        "crate" => Some(PropLayout::Crate),
+        "book" => Some(PropLayout::Book),
+        _ => None,
+    }
+}
+
+pub fn property(layout: &str, s: &str) -> Option<String> {
+    let layout = layout_of(layout)?;
     let s = words::bytes(s)?;
-    let (x, taken) = match PtpPropInfo::decode(&s) {
+    let (x, taken) = match PtpPropInfo::decode(layout, &s) {
         Ok(read) => read,
         Err(why) => return Some(show::refusal(why)),
     };
@@ -85,7 +96,7 @@ pub fn property(s: &str) -> Option<String> {
         x.PropertyCode,
         x.DataType,
         x.GetSet,
-        x.IsEnable,
+        x.IsEnable.map_or("-".into(), |byte| byte.to_string()),
         show::value(x.FactoryDefault),
         show::value(x.Current)
     );
@@ -102,29 +113,32 @@ pub fn property(s: &str) -> Option<String> {
     Some(line)
 }
 
-pub fn tidy(s: &str, room: &str) -> Option<String> {
+pub fn tidy(layout: &str, s: &str, room: &str) -> Option<String> {
+    let layout = layout_of(layout)?;
     let s = words::bytes(s)?;
     let mut out = words::room(room)?;
-    let answer = match tidy_property(&s, &mut out) {
+    let answer = match tidy_property(layout, &s, &mut out) {
         Ok(written) => format!("ok {}", written.len()),
         Err(why) => show::refusal(why),
     };
     Some(format!("{answer} {}", show::bytes(&out)))
 }
 
-pub fn nth(n: &str, s: &str) -> Option<String> {
+pub fn nth(layout: &str, n: &str, s: &str) -> Option<String> {
+    let layout = layout_of(layout)?;
     let n = words::size(n)?;
     let s = words::bytes(s)?;
-    Some(match PtpPropInfo::nth(&s, n) {
+    Some(match PtpPropInfo::nth(layout, &s, n) {
         Ok(value) => format!("ok {} {} {}", show::value(value), show::start(value.bytes(), &s), value.bytes().len()),
         Err(why) => show::refusal(why),
     })
 }
 
 // The iterator steps by itself: each of its values must be the very part that the archive finds for that place of the list.
-pub fn list(s: &str) -> Option<String> {
+pub fn list(layout: &str, s: &str) -> Option<String> {
+    let layout = layout_of(layout)?;
     let s = words::bytes(s)?;
-    let array = match PtpPropInfo::decode(&s) {
+    let array = match PtpPropInfo::decode(layout, &s) {
         Ok((PtpPropInfo { Form: PtpFormData::Enumeration { array }, .. }, _)) => array,
         Ok(_) => return Some("ok 0 0".into()),
         Err(why) => return Some(format!("ok {} 0", show::told(why))),
@@ -138,10 +152,11 @@ pub fn list(s: &str) -> Option<String> {
     Some(format!("ok 0 {}{}", values.len(), shown.collect::<String>()))
 }
 
-pub fn newer(description: &str, payload: &str) -> Option<String> {
+pub fn newer(layout: &str, description: &str, payload: &str) -> Option<String> {
+    let layout = layout_of(layout)?;
     let description = words::bytes(description)?;
     let payload = words::bytes(payload)?;
-    Some(match newer_value(&description, &payload) {
+    Some(match newer_value(layout, &description, &payload) {
         Newer::Description(part) => {
             format!("ok description {} {} {}", show::start(part, &description), part.len(), show::bytes(part))
         }

@@ -1,5 +1,5 @@
 //! Commands, answers, object tables and records.
-use super::{show, words};
+use super::{datasets, show, words};
 use ptp_proved::{find_answer, read_record, Answer, Made, ObjectTable, PtpRecord, Refusal, Session};
 
 // The session that was asked, at its state before; and what it made: the number sent, and how many bytes.
@@ -36,14 +36,15 @@ pub fn command(state: &str, code: &str, params: &str, data: Option<&str>, room: 
     Some(made(state, session, answer, &out))
 }
 
-pub fn set_value(state: &str, description: &str, code: &str, value: &str, room: &str) -> Option<String> {
+pub fn set_value(layout: &str, state: &str, description: &str, code: &str, value: &str, room: &str) -> Option<String> {
+    let layout = datasets::layout_of(layout)?;
     let state = words::half(state)?;
     let description = words::bytes(description)?;
     let code = words::short(code)?;
     let value = words::bytes(value)?;
     let mut out = words::room(room)?;
     let mut session = Session::at(state);
-    let answer = session.set_value(&description, code, &value, &mut out).map(told);
+    let answer = session.set_value(layout, &description, code, &value, &mut out).map(told);
     Some(made(state, session, answer, &out))
 }
 

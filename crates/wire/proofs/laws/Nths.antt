@@ -112,14 +112,14 @@ module _ (t : ℕ) (s : List ℕ) (h : Bytes s) where
 
 -- ── of a description ──
 
-module _ (s : List ℕ) (h : Bytes s) (x : PropInfo) (n : ℕ) (read : propertyAt s 0 ≡ got x n) where
+module _ (there : Bool) (s : List ℕ) (h : Bytes s) (x : PropInfo) (n : ℕ) (read : propertyAt there s 0 ≡ got x n) where
   abbrev pub its : List Val
   its = valuesOf ((propertyIn s x) .form)
 
   -- its list, if it has one
   listed : (all : Slot) (count : ℕ) → x .form ≡ form.list all count
       → ((repeated count (value (x .«data_type»))) .read s (all .start) ≡ got its (all .start + all .len)) × (all .start ≤ length s) × (count ≡ length its)
-  listed all count e = go (subst (λ f. WordedForm (x .«data_type») s f (formIn (x .«data_type») s f)) e ((held s h x n read) .form))
+  listed all count e = go (subst (λ f. WordedForm (x .«data_type») s f (formIn (x .«data_type») s f)) e ((held s h there x n read) .form))
     where
       go : WordedForm (x .«data_type») s (form.list all count) (list (valuesIn (x .«data_type») s all count))
           → ((repeated count (value (x .«data_type»))) .read s (all .start) ≡ got its (all .start + all .len)) × (all .start ≤ length s) × (count ≡ length its)
@@ -128,19 +128,19 @@ module _ (s : List ℕ) (h : Bytes s) (x : PropInfo) (n : ℕ) (read : propertyA
           let size = repeat-length (Value (x .«data_type»)) loose count _ _ (w .reads) in
           (rw same (read-back (repeat-format count (value-format (x .«data_type»))) w), omega (arith, w .within), rw same (sym size))
 
-  pub nths : (k : ℕ) → Nths (x .«data_type») s (x .form) its k (nthAt k s)
+  pub nths : (k : ℕ) → Nths (x .«data_type») s (x .form) its k (nthAt there k s)
   unfolding nthAt nthIn after
   nths k = go (x .form) refl
     where
-      go : (f : form.Form) → x .form ≡ f → Nths (x .«data_type») s (x .form) its k (nthAt k s)
+      go : (f : form.Form) → x .form ≡ f → Nths (x .«data_type») s (x .form) its k (nthAt there k s)
       go (form.list all count) e =
           let r = listed all count e in
           let same : between (all .start) (all .start + all .len) ≡ all = ap (λ m. record { start = all .start; len = m }) (omega arith) in
           record {
             found = λ lt.
                 let a = nth-read (x .«data_type») s h k count (all .start) (omega (arith, r .2)) (r .1) its (all .start + all .len) (r .0) in
-                let there : nthAt k s ≡ nthValue (x .«data_type») k s (all .start) = rw (read, e, lt-ltb k count (omega (arith, r .2))) in
-                (all, a .0, a .1, a .2, e ∙ ap (form.list all) (r .2), there ∙ a .3, rw same at (a .4));
+                let at-k : nthAt there k s ≡ nthValue (x .«data_type») k s (all .start) = rw (read, e, lt-ltb k count (omega (arith, r .2))) in
+                (all, a .0, a .1, a .2, e ∙ ap (form.list all) (r .2), at-k ∙ a .3, rw same at (a .4));
             past = λ le. rw (read, e, le-ltb k count (omega (arith, r .2)));
           }
       go (form.range a b c) e = record {
@@ -152,27 +152,27 @@ module _ (s : List ℕ) (h : Bytes s) (x : PropInfo) (n : ℕ) (read : propertyA
         past = λ le. rw (read, e);
       }
 
-  pub steps : (src : RefT (List ℕ)) → now src ≡ s → (l : Values) → l ≡ listAt src (placeOf s) → Yields (x .«data_type») s l its
+  pub steps : (src : RefT (List ℕ)) → now src ≡ s → (l : Values) → l ≡ listAt src (placeOf there s) → Yields (x .«data_type») s l its
   steps src of l is = rw is (go (x .form) refl)
     where
-      empty : placeOf s ≡ record { ty = x .«data_type»; at = 0; left = 0; refusal = 0 } → its ≡ [] → Yields (x .«data_type») s (listAt src (placeOf s)) its
+      empty : placeOf there s ≡ record { ty = x .«data_type»; at = 0; left = 0; refusal = 0 } → its ≡ [] → Yields (x .«data_type») s (listAt src (placeOf there s)) its
       empty q none = rw (none, q) (steps-read (x .«data_type») s h 0 (listAt src (record { ty = x .«data_type»; at = 0; left = 0; refusal = 0 })) of refl refl refl (omega arith) [] 0 refl)
 
-      go : (f : form.Form) → x .form ≡ f → Yields (x .«data_type») s (listAt src (placeOf s)) its
+      go : (f : form.Form) → x .form ≡ f → Yields (x .«data_type») s (listAt src (placeOf there s)) its
       go (form.list all count) e =
           let r = listed all count e in
-          let q : placeOf s ≡ record { ty = x .«data_type»; at = all .start; left = count; refusal = 0 } = ap placeFrom read ∙ rw e in
+          let q : placeOf there s ≡ record { ty = x .«data_type»; at = all .start; left = count; refusal = 0 } = ap placeFrom read ∙ rw e in
           rw q (steps-read (x .«data_type») s h count (listAt src (record { ty = x .«data_type»; at = all .start; left = count; refusal = 0 })) of refl refl refl (r .1) its (all .start + all .len) (r .0))
       go (form.range a b c) e = empty (ap placeFrom read ∙ rw e) (rw e)
       go form.absent e = empty (ap placeFrom read ∙ rw e) (rw e)
 
 -- a refused description has no value
-module _ (s : List ℕ) (t : Told) (read : propertyAt s 0 ≡ refused t) where
-  pub nth-none : (k : ℕ) → nthAt k s ≡ refused t
+module _ (there : Bool) (s : List ℕ) (t : Told) (read : propertyAt there s 0 ≡ refused t) where
+  pub nth-none : (k : ℕ) → nthAt there k s ≡ refused t
   unfolding nthAt after
   nth-none k = rw read
 
-  pub steps-none : (src : RefT (List ℕ)) (l : Values) → l ≡ listAt src (placeOf s) → (r : Step) → Nexts l r → saysStep r ≡ end
+  pub steps-none : (src : RefT (List ℕ)) (l : Values) → l ≡ listAt src (placeOf there s) → (r : Step) → Nexts l r → saysStep r ≡ end
   unfolding stepAt
   steps-none src l is r promised = promised ∙ rw (is, ap placeFrom read) (go (eqb (t .no) 0))
     where

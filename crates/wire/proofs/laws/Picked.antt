@@ -44,13 +44,13 @@ fills-word t p h e = go (valueAt t p 0) ((values t) .agrees p 0) e
         (shapeIn (shape t) p l, rw same at (w .0 .reads))
     go (refused u) a e = zero-one (cc)
 
-module _ (d : List ℕ) (h : Bytes d) (x : PropInfo) (n : ℕ) (read : propertyAt d 0 ≡ got x n) (p : List ℕ) (k : Bytes p) where
-  pub picks : Picks (x .«data_type») p ((propertyIn d x) .current) (newerBytes d p)
+module _ (there : Bool) (d : List ℕ) (h : Bytes d) (x : PropInfo) (n : ℕ) (read : propertyAt there d 0 ≡ got x n) (p : List ℕ) (k : Bytes p) where
+  pub picks : Picks (x .«data_type») p ((propertyIn d x) .current) (newerBytes there d p)
   picks = record {
     later = λ v g. rw (read, word-fills (x .«data_type») p v g, take-length p);
     other = λ none. go none (fills (x .«data_type») p) refl;
   }
     where
-      go : ((v : Val) → Value (x .«data_type») loose p v → ⊥) → (b : Bool) → fills (x .«data_type») p ≡ b → Value (x .«data_type») loose (newerBytes d p) ((propertyIn d x) .current)
+      go : ((v : Val) → Value (x .«data_type») loose p v → ⊥) → (b : Bool) → fills (x .«data_type») p ≡ b → Value (x .«data_type») loose (newerBytes there d p) ((propertyIn d x) .current)
       go none true e = let f = fills-word (x .«data_type») p k e in absurd (none (f .0) (f .1))
-      go none false e = rw (read, e) ((held d h x n read) .current .reads)
+      go none false e = rw (read, e) ((held d h there x n read) .current .reads)

@@ -1,6 +1,7 @@
 -- Which refusals of the byte layer have a place: 1 and 2 and no other, whatever the reader; and from a place inside the bytes it is inside them.
 -- Each reader goes from field to field, so a line of layout's laws a field is the whole argument.
 -- Assumes nothing.
+use mathlib.Core.Bool.{Bool, true, false}
 use mathlib.Core.Path.{_≡_, subst}
 use mathlib.Core.List.{List, [], _∷_}
 use Prim.Native.Nat.{ℕ, _+_, _-_, _*_}
@@ -18,7 +19,7 @@ use Rattle.wire.specs.Codecs.{value}
 use Rattle.wire.specs.Places.{numAt, unitsAt, textAt, arrayAt, shapeAt, valueAt, unitAt, itemOf, itemIn, itemAt, filledAt, shapeIn, rowAt}
 use Rattle.wire.specs.Says.{saysPart, saysValue}
 use Rattle.wire.specs.Utf8.{utf8At}
-use Rattle.wire.specs.Property.{valuesAt, rangeAt, listAt, formAt, propertyAt, saysProperty}
+use Rattle.wire.specs.Property.{valuesAt, rangeAt, listAt, formAt, propertyAt, saysProperty, enableAt}
 use Rattle.wire.specs.Description as form
 use Rattle.wire.specs.List.{valueSlot, nthValue, nthIn, nthAt, saysNth}
 use Rattle.wire.specs.Container.{isKind, headerRest, headerAt, containerAt, saysHeader, saysContainer}
@@ -92,13 +93,18 @@ module _ {P : ℕ → Type 0} (s : List ℕ) (closed : Closed P s) where
       telling-after (values-telling t n start j) λ _ next k. read k)
       λ _. read i
 
-  pub property-telling : (at : ℕ) → P at → Telling P (propertyAt s at)
+  enable-telling : (there : Bool) (at : ℕ) → P at → Telling P (enableAt there s at)
+  unfolding enableAt
+  enable-telling true at h = telling-after (telling-field s closed 1 number at h) λ n next i. read i
+  enable-telling false at h = read h
+
+  pub property-telling : (there : Bool) (at : ℕ) → P at → Telling P (propertyAt there s at)
   unfolding propertyAt
-  property-telling at h =
+  property-telling there at h =
       telling-after (telling-field s closed 2 number at h) λ code a i.
       telling-after (telling-field s closed 2 number a i) λ type b j.
       telling-after (telling-field s closed 1 number b j) λ access c k.
-      telling-after (telling-field s closed 1 number c k) λ enable d l.
+      telling-after (enable-telling there c k) λ enabled d l.
       telling-after (values-telling type 1 d l) λ default e m.
       telling-after (values-telling type 1 e m) λ current f n.
       telling-after (form-telling type f n) λ shape next o. read o
@@ -152,9 +158,9 @@ module _ (s : List ℕ) where
   nth-in n t (form.range a b c) = plainly PLACE (omega arith)
   nth-in n t form.absent = plainly PLACE (omega arith)
 
-  nth-telling : (n : ℕ) → Telling Everywhere (nthAt n s)
+  nth-telling : (there : Bool) (n : ℕ) → Telling Everywhere (nthAt there n s)
   unfolding nthAt
-  nth-telling n = telling-after (property-telling s (everywhere s) 0 tt) λ x _ _. nth-in n (x .«data_type») (x .form)
+  nth-telling there n = telling-after (property-telling s (everywhere s) there 0 tt) λ x _ _. nth-in n (x .«data_type») (x .form)
 
 -- ── of the functions' own answers: a place exactly for 1 and 2, whatever the bytes and the place ──
 
@@ -191,11 +197,11 @@ module _ (s : List ℕ) (at : ℕ) where
   pub storage-told : (r : ReadStorage) → saysStorage r ≡ rowAt storage s at → PlacedExactly (saysStorage r)
   storage-told r promised = telling-exactly (telling-same promised (row-telling s (everywhere s) storage at tt))
 
-  pub property-told : (r : ReadProperty) → saysProperty r ≡ propertyAt s at → PlacedExactly (saysProperty r)
-  property-told r promised = telling-exactly (telling-same promised (property-telling s (everywhere s) at tt))
+  pub property-told : (there : Bool) (r : ReadProperty) → saysProperty r ≡ propertyAt there s at → PlacedExactly (saysProperty r)
+  property-told there r promised = telling-exactly (telling-same promised (property-telling s (everywhere s) there at tt))
 
-  pub nth-told : (n : ℕ) (r : ReadNth) → saysNth r ≡ nthAt n s → PlacedExactly (saysNth r)
-  nth-told n r promised = telling-exactly (telling-same promised (nth-telling s n))
+  pub nth-told : (there : Bool) (n : ℕ) (r : ReadNth) → saysNth r ≡ nthAt there n s → PlacedExactly (saysNth r)
+  nth-told there n r promised = telling-exactly (telling-same promised (nth-telling s there n))
 
   pub header-told : (r : ReadHeader) → saysHeader r ≡ headerAt s at → PlacedExactly (saysHeader r)
   header-told r promised = telling-exactly (telling-same promised (header-telling s (everywhere s) at tt))
@@ -215,5 +221,5 @@ module _ (s : List ℕ) where
   pub storage-inside : (r : ReadStorage) → saysStorage r ≡ rowAt storage s 0 → Inside (length s) (saysStorage r)
   storage-inside r promised = (told-from-0 s promised λ P c h. row-telling s c storage 0 h) .1
 
-  pub property-inside : (r : ReadProperty) → saysProperty r ≡ propertyAt s 0 → Inside (length s) (saysProperty r)
-  property-inside r promised = (told-from-0 s promised λ P c h. property-telling s c 0 h) .1
+  pub property-inside : (there : Bool) (r : ReadProperty) → saysProperty r ≡ propertyAt there s 0 → Inside (length s) (saysProperty r)
+  property-inside there r promised = (told-from-0 s promised λ P c h. property-telling s c there 0 h) .1

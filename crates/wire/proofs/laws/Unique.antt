@@ -1,6 +1,7 @@
 -- What each answer says determines it; so each promise allows one answer (`reads-one`, `one-written` of layout's Determined).
 -- Assumes nothing.
-use mathlib.Core.Path.{_≡_, refl, ap}
+use mathlib.Core.Option.{Option, some, none}
+use mathlib.Core.Path.{_∙_, _≡_, refl, ap}
 use mathlib.Core.List.{List}
 use Prim.Native.Nat.{ℕ}
 use lib.ListN.{getD}
@@ -30,6 +31,8 @@ use Rattle.wire.specs.declared.storage.ReadStorage.the-variants as readS
 use Rattle.wire.specs.Description as form
 use Rattle.wire.specs.declared.property.Form as declared
 use Rattle.wire.specs.declared.property.Form.the-variants as variants
+use Rattle.wire.specs.declared.property.Enable as declared-enable
+use Rattle.wire.specs.declared.property.Enable.the-variants as enables
 use Rattle.wire.specs.declared.property.PropInfo as declared-info
 use Rattle.wire.specs.declared.property.ReadProperty.{ReadProperty}
 use Rattle.wire.specs.declared.property.ReadProperty.the-variants as readProperty
@@ -52,7 +55,7 @@ use Rattle.wire.specs.Container.{saysHeader, saysContainer}
 use Rattle.wire.specs.Device.{saysDevice}
 use Rattle.wire.specs.Object.{saysObject}
 use Rattle.wire.specs.Storage.{saysStorage}
-use Rattle.wire.specs.Property.{saysForm, infoFrom, saysProperty}
+use Rattle.wire.specs.Property.{saysForm, infoFrom, saysProperty, saysEnable}
 use Rattle.wire.specs.List.{Stepped, next, end, saysNth, saysStep}
 use Rattle.wire.specs.Tidy.{saysMeasured}
 
@@ -292,19 +295,28 @@ form-back (variants.Range a b c) = refl
 form-back (variants.List p n) = refl
 
 -- with another form
-abbrev with : form.PropInfo → declared.Form → declared-info.PropInfo
-with x f = record {
+from-enable : Option ℕ → declared-enable.Enable
+from-enable (some n) = enables.There n
+from-enable none = enables.Absent
+
+enable-back : (e : declared-enable.Enable) → from-enable (saysEnable e) ≡ e
+unfolding from-enable
+enable-back (enables.There n) = refl
+enable-back enables.Absent = refl
+
+abbrev with : form.PropInfo → declared-enable.Enable → declared.Form → declared-info.PropInfo
+with x e f = record {
   «property_code» = x .«property_code»;
   «data_type» = x .«data_type»;
   «get_set» = x .«get_set»;
-  «is_enable» = x .«is_enable»;
+  «is_enable» = e;
   «factory_default» = x .«factory_default»;
   current = x .current;
   form = f;
 }
 
 from-property : Answer form.PropInfo → ReadProperty
-from-property (got x n) = readProperty.Got (with x (from-form (x .form))) (record { at = n })
+from-property (got x n) = readProperty.Got (with x (from-enable (x .«is_enable»)) (from-form (x .form))) (record { at = n })
 from-property (refused t) = readProperty.Refused t
 
 pub tells-property : Tells saysProperty
@@ -312,5 +324,7 @@ unfolding from-property
 tells-property = retracts from-property property-back
   where
     property-back : (r : ReadProperty) → from-property (saysProperty r) ≡ r
-    property-back (readProperty.Got x c) = ap (λ f. readProperty.Got (with (infoFrom x) f) c) (form-back (x .form))
+    property-back (readProperty.Got x c) =
+        ap (λ e. readProperty.Got (with (infoFrom x) e (from-form (saysForm (x .form)))) c) (enable-back (x .«is_enable»))
+        ∙ ap (λ f. readProperty.Got (with (infoFrom x) (x .«is_enable») f) c) (form-back (x .form))
     property-back (readProperty.Refused t) = refl

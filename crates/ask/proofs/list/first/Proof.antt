@@ -1,4 +1,4 @@
--- `ask::list::first` meets its contract: a walk of its MIR, by hand. The list that `list_of` returns is held in a local and passed to `next`. All that the proof knows of the two is that each meets its contract.
+-- `ask::list::first` meets its contract: a walk of its MIR, by hand. The layout is passed on; the list that `list_of` returns is held in a local and passed to `next`. All that the proof knows of the two is that each meets its contract.
 -- The machine value that `list_of` returns is stored and passed on as it is. In a local of a body MIR erases the lifetime of the struct's type, so the value is shown to have the type at `erased`.
 -- Assumes nothing.
 use mathlib.Core.Path.{_≡_, refl, ap, _∙_}
@@ -31,19 +31,23 @@ use denote.Enum.Laws as EL
 use denote.Struct.Laws as LL
 use denote.Triple.Statement.{Contract, Triple}
 use denote.Triple.Call.{calls-at}
-use denote.Triple.Entry.{onEntry}
+use denote.Triple.Entry.{Vals, onEntry}
 use denote.Triple.Spec.{Meets, tripleOf}
 use denote.Triple.Table.{entered, cited}
-use denote.Triple.Walked.{says, Stays, stay-none-slice, walkOf, goes-none-slice, Walks, ends-at, walked, walk-meets}
+use denote.Triple.Walked.{says, Stays, stay-none, stay-none-slice, walkOf, goes-none, goes-none-slice, Walks, ends-at, walked, walk-meets}
 use denote.Exit.{yes}
 use denote.Triple.Clauses.{ensured, lasts}
 use Rattle.wire.specs.List.{placeOf, listAt, Stepped, stepAt, saysStep}
+use Rattle.wire.specs.Property.{hasEnable}
 use Rattle.wire.specs.declared.list.Values.{Values}
 use Rattle.wire.specs.declared.list.Step.{Step}
+use Rattle.wire.specs.declared.property.PropLayout.{PropLayout}
 use Rattle.wire.proofs.list.Values as T
 use Rattle.wire.proofs.list.Values.Laws as T′
 use Rattle.wire.proofs.list.Step as S
 use Rattle.wire.proofs.list.Step.Laws as S′
+use Rattle.wire.proofs.property.PropLayout as E
+use Rattle.wire.proofs.property.PropLayout.Laws as E′
 use Rattle.wire.proofs.list_of as new
 use Rattle.wire.proofs.list_of.Symbol as new-def
 use Rattle.wire.proofs.list_of.Symbol.{name as #wire·list-of}
@@ -62,7 +66,7 @@ abbrev B : Lfts 1 → RattleType
 B κs = T.the-row (namedLft 1 0 tt κs)
 
 abbrev stayed : Stays (first.ended .signature .params) (first.ended .kept)
-stayed = (stay-none-slice (0 ∷ []) tt (plain (λ _. u8)) yes, tt)
+stayed = (stay-none (λ _. E.the-row) yes, (stay-none-slice (0 ∷ []) tt (plain (λ _. u8)) yes, tt))
 
 module _ {M : Type 1} (𝓤 : URA M) (H : Heap 𝓤) (A : Atoms 𝓤) (mem : Memory → SProp 𝓤) (run : Routine → Fun 𝓤) where
   -- the contracts that the proof cites
@@ -72,40 +76,55 @@ module _ {M : Type 1} (𝓤 : URA M) (H : Heap 𝓤) (A : Atoms 𝓤) (mem : Mem
   abbrev Next : Contract 𝓤
   Next = tripleOf 𝓤 H A next.signature (next.spec 𝓤 H A mem run)
 
-module _ {M : Type 1} (𝓤 : URA M) (H : Heap 𝓤) (A : Atoms 𝓤) (W : Given 𝓤 H A) (mem : Memory → SProp 𝓤) (run : Routine → Fun 𝓤) (κ : Lft) (q : Share) (s : RefT (List ℕ)) where
-  -- the machine value that s has
+module _ {M : Type 1} (𝓤 : URA M) (H : Heap 𝓤) (A : Atoms 𝓤) (W : Given 𝓤 H A) (mem : Memory → SProp 𝓤) (run : Routine → Fun 𝓤) (κ : Lft) (q : Share) (l : PropLayout) (s : RefT (List ℕ)) where
+  -- the machine values that s and l have
   abbrev v : Val
   v = sliceVal (s .ptr) (length (s .now))
 
+  abbrev w : Val
+  w = E′.lowered l
+
+  abbrev at : Vals first.signature (κ, tt)
+  at = (w ∷ [], (v ∷ [], tt))
+
   -- what a step finds in a list
   abbrev step-of : Values → Stepped
-  step-of l = stepAt (now (l .src)) (l .ty) (l .at) (l .left) (l .refusal)
+  step-of d = stepAt (now (d .src)) (d .ty) (d .at) (d .left) (d .refusal)
 
   abbrev made : Values
-  made = listAt s (placeOf (now s))
+  made = listAt s (placeOf (hasEnable l) (now s))
 
   -- the struct's type as a local of a body has it
   abbrev αᵉ : NamedLft
   αᵉ = record { mir = erased; lft = κ }
 
   abbrev Post : Val → SProp 𝓤
-  Post = walkOf 𝓤 H A first.ended stayed (first.clauses 𝓤 H A mem run) .post (((κ, tt), (q, tt), tt, (s, tt), (v ∷ [], tt)), tt)
+  Post = walkOf 𝓤 H A first.ended stayed (first.clauses 𝓤 H A mem run) .post (((κ, tt), (q, tt), tt, (l, (s, tt)), at), tt)
 
   abbrev Own : Fml
   Own = ShrSlice (named 0) κ u8 .own s (v ∷ [])
 
+  abbrev Named : Fml
+  Named = E.the-row .own l (w ∷ [])
+
+  abbrev Both : Fml
+  Both = owns (E.the-row ∷ ShrSlice (named 0) κ u8 ∷ []) (l, (s, tt)) at
+
   -- the call of `new`: what it is passed, what it asks, and what is known of its result
   abbrev to-new : New 𝓤 H A mem run .Ghost
-  to-new = (((κ, tt), (q, tt), tt, (s, tt), (v ∷ [], tt)), tt)
+  to-new = (((κ, tt), (q, tt), tt, (l, (s, tt)), at), tt)
 
-  goes-new : ent 𝓤 (onEntry 𝓤 H A first.signature (κ, tt) (q, tt) (s, tt) (v ∷ [], tt)) (sep 𝓤 (New 𝓤 H A mem run .pre to-new) (sem 𝓤 H A Own))
+  goes-new : ent 𝓤 (onEntry 𝓤 H A first.signature (κ, tt) (q, tt) (l, (s, tt)) at) (sep 𝓤 (New 𝓤 H A mem run .pre to-new) (sem 𝓤 H A Both))
   goes-new =
-      qed W ((‵ (flft κ q) ⊛ ‵ ftrue) ∷ ‵ (owns (ShrSlice (named 0) κ u8 ∷ []) (s, tt) (v ∷ [], tt)) ∷ []) ∵
-      move ! (1 ∷ []) $ fsplit ! $ use1 W (‵ Own ⊛ ‵ Own) (shr-slice-copy 𝓤 H A W (named 0) κ u8 .twice s (v ∷ [])) $ split ! $
-      move ! (0 ∷ 2 ∷ []) $ fjoin ! $ move ! (2 ∷ 0 ∷ []) $ use2 W (raw (New 𝓤 H A mem run .pre to-new)) (qed W ((‵ (flft κ q) ⊛ ‵ ftrue) ∷ ‵ (owns (ShrSlice (named 0) κ u8 ∷ []) (s, tt) (v ∷ [], tt)) ∷ []) ∵ join ! $ frame ! $ done !) $ frame ! $ done !
+      qed W ((‵ (flft κ q) ⊛ ‵ ftrue) ∷ ‵ Both ∷ []) ∵
+      move ! (1 ∷ []) $ fsplit ! $ use1 W (‵ Named ⊛ ‵ Named) (EL.copy E.the-type E′.the-copy 𝓤 H A W .twice l (w ∷ [])) $ split ! $
+      move ! (2 ∷ []) $ fsplit ! $ use1 W (‵ Own ⊛ ‵ Own) (shr-slice-copy 𝓤 H A W (named 0) κ u8 .twice s (v ∷ [])) $ split ! $
+      -- [what s owns, twice; nothing; what l owns, twice; the token]
+      nothing ! $ move ! (1 ∷ 0 ∷ []) $ fjoin ! $ move ! (3 ∷ 0 ∷ []) $ fjoin ! $ move ! (1 ∷ 2 ∷ []) $ fjoin ! $ move ! (2 ∷ 0 ∷ []) $ fjoin ! $ move ! (2 ∷ 0 ∷ []) $
+      use2 W (raw (New 𝓤 H A mem run .pre to-new)) (qed W ((‵ (flft κ q) ⊛ ‵ ftrue) ∷ ‵ Both ∷ []) ∵ join ! $ frame ! $ done !) $ frame ! $ done !
 
-  new-said : (r : Values) → ent 𝓤 (ensured 𝓤 H A new.ended (new.clauses 𝓤 H A mem run) (κ, tt) (s, tt) tt r) (fact 𝓤 (r ≡ made))
-  new-said r = exE 𝓤 _ (λ ws. snd∗ 𝓤 (sem 𝓤 H A (lasts new.ended (κ, tt) (s, tt) ws)) (fact 𝓤 (r ≡ made)))
+  new-said : (r : Values) → ent 𝓤 (ensured 𝓤 H A new.ended (new.clauses 𝓤 H A mem run) (κ, tt) (l, (s, tt)) tt r) (fact 𝓤 (r ≡ made))
+  new-said r = exE 𝓤 _ (λ ws. snd∗ 𝓤 (sem 𝓤 H A (lasts new.ended (κ, tt) (l, (s, tt)) ws)) (fact 𝓤 (r ≡ made)))
 
   -- the call of `next`, at the struct r with the machine value u
   abbrev to-next : Values → Val → Next 𝓤 H A mem run .Ghost
@@ -117,44 +136,44 @@ module _ {M : Type 1} (𝓤 : URA M) (H : Heap 𝓤) (A : Atoms 𝓤) (W : Given
   next-said : (r : Values) (t : Step) → ent 𝓤 (ensured 𝓤 H A next.ended (next.clauses 𝓤 H A mem run) (κ, tt) (r, tt) tt t) (fact 𝓤 (saysStep t ≡ step-of r))
   next-said r t = exE 𝓤 _ (λ ws. snd∗ 𝓤 (sem 𝓤 H A (lasts next.ended (κ, tt) (r, tt) ws)) (fact 𝓤 (saysStep t ≡ step-of r)))
 
-  exits : (t : Step) (u : Val) → saysStep t ≡ step-of made → ent 𝓤 (⋆ 𝓤 H A (‵ (S.the-row .own t (u ∷ [])) ∷ (‵ (flft κ q) ⊛ ‵ ftrue) ∷ ‵ Own ∷ [])) (Post u)
+  exits : (t : Step) (u : Val) → saysStep t ≡ step-of made → ent 𝓤 (⋆ 𝓤 H A (‵ (S.the-row .own t (u ∷ [])) ∷ (‵ (flft κ q) ⊛ ‵ ftrue) ∷ ‵ Both ∷ [])) (Post u)
   exits t u e =
-      qed W (‵ (S.the-row .own t (u ∷ [])) ∷ (‵ (flft κ q) ⊛ ‵ ftrue) ∷ ‵ Own ∷ []) ∵
-      suffices ! _ (ends-at 𝓤 H A first.ended stayed (first.clauses 𝓤 H A mem run) W (((κ, tt), (q, tt), tt, (s, tt), (v ∷ [], tt)), tt) u t (tt, tt) (tt, tt)) $ says ! e $
-      move ! (1 ∷ []) $ frame ! $ nothing ! $ move ! (2 ∷ 0 ∷ []) $ fjoin ! $ frame ! $ done !
+      qed W (‵ (S.the-row .own t (u ∷ [])) ∷ (‵ (flft κ q) ⊛ ‵ ftrue) ∷ ‵ Both ∷ []) ∵
+      suffices ! _ (ends-at 𝓤 H A first.ended stayed (first.clauses 𝓤 H A mem run) W (((κ, tt), (q, tt), tt, (l, (s, tt)), at), tt) u t (tt, (tt, tt)) (tt, (tt, tt))) $ says ! e $
+      move ! (1 ∷ []) $ frame ! $ move ! (1 ∷ []) $ frame ! $ done !
 
   module _ (C : Calls 𝓤 H) (Λ : Loops 𝓤 H) (fm : FmC 𝓤 H (W .laws) C) (known-new : Triple 𝓤 (C #wire·list-of) (New 𝓤 H A mem run)) (known-next : Triple 𝓤 (C #wire·next) (Next 𝓤 H A mem run)) where
-    walk : Is (ShrSlice (named 0) κ u8) s (v ∷ []) → ent 𝓤 (onEntry 𝓤 H A first.signature (κ, tt) (q, tt) (s, tt) (v ∷ [], tt)) (WpFn 𝓤 H C Λ code.function (v ∷ []) Post)
-    walk p =
-        qed W (raw (onEntry 𝓤 H A first.signature (κ, tt) (q, tt) (s, tt) (v ∷ [], tt)) ∷ []) ∵ enter ! C Λ code.function (v ∷ []) _ $
-        alloc1 ! (λ l₀. alloc1 ! (λ l₁. alloc1 ! (λ l₂. alloc0 ! $ params1 ! $ pass1 ! (init ! 2 refl (shr-slice-lawful 𝓤 H A W (named 0) κ u8 .typed s (v ∷ []) p .0)) $ pass0 ! $
-        move ! (6 ∷ []) $ use1 W (raw (New 𝓤 H A mem run .pre to-new) ⊛ ‵ Own) goes-new $ split ! $
-        calls-at ! fm (New 𝓤 H A mem run) known-new to-new (and-then ! (load ! (from ! (stop !)) (look ! 4 refl)) (no-more !)) (λ u.
-        use1 W (later (some (λ (r : Values). ((‵ (flft κ q) ⊛ ‵ ftrue) ⊛ ‵ (B (κ, tt) .own r (u ∷ []))) ⊛ raw (ensured 𝓤 H A new.ended (new.clauses 𝓤 H A mem run) (κ, tt) (s, tt) tt r)))) (id⊢ 𝓤 _) $ await ! tt $ pick ! (λ r.
+    walk : Is E.the-row l (w ∷ []) → Is (ShrSlice (named 0) κ u8) s (v ∷ []) → ent 𝓤 (onEntry 𝓤 H A first.signature (κ, tt) (q, tt) (l, (s, tt)) at) (WpFn 𝓤 H C Λ code.function (w ∷ v ∷ []) Post)
+    walk n p =
+        qed W (raw (onEntry 𝓤 H A first.signature (κ, tt) (q, tt) (l, (s, tt)) at) ∷ []) ∵ enter ! C Λ code.function (w ∷ v ∷ []) _ $
+        alloc1 ! (λ l₀. alloc1 ! (λ l₁. alloc1 ! (λ l₂. alloc1 ! (λ l₃. alloc0 ! $ params1 ! $ pass1 ! (init ! 4 refl (EL.lawful E.the-type E′.the-laws 𝓤 H A W tt .typed l _ n .0)) $ pass1 ! (init ! 2 refl (shr-slice-lawful 𝓤 H A W (named 0) κ u8 .typed s (v ∷ []) p .0)) $ pass0 ! $
+        move ! (8 ∷ []) $ use1 W (raw (New 𝓤 H A mem run .pre to-new) ⊛ ‵ Both) goes-new $ split ! $
+        calls-at ! fm (New 𝓤 H A mem run) known-new to-new (and-then ! (load ! (from ! (stop !)) (look ! 6 refl)) (and-then ! (load ! (from ! (stop !)) (look ! 4 refl)) (no-more !))) (λ u.
+        use1 W (later (some (λ (r : Values). ((‵ (flft κ q) ⊛ ‵ ftrue) ⊛ ‵ (B (κ, tt) .own r (u ∷ []))) ⊛ raw (ensured 𝓤 H A new.ended (new.clauses 𝓤 H A mem run) (κ, tt) (l, (s, tt)) tt r)))) (id⊢ 𝓤 _) $ await ! tt $ pick ! (λ r.
         split ! $ move ! (1 ∷ []) $ use1 W (raw (fact 𝓤 (r ≡ made))) (new-said r) $ heard ! (r ≡ made) (λ e. split ! $ move ! (1 ∷ []) $
-        -- [what the struct owns; the token; what s owns; room for _2; …; _1; …; room for _0; …]
+        -- [what the struct owns; the token; what l and s own; room for _3; …; _2; …; _1; …; room for _0; …]
         peeks ! (B (κ, tt)) (Is (B (κ, tt))) (shows 𝓤 H A (B (κ, tt))) r (u ∷ []) (λ is.
         land ! (from ! (stop !)) (init ! 3 refl (LL.lawful (T.the-type αᵉ) (T′.the-laws αᵉ) 𝓤 H A W .typed r _ is .0)) $
         use2 W (raw (Next 𝓤 H A mem run .pre (to-next r u))) (goes-next r u) $
         calls-at ! fm (Next 𝓤 H A mem run) known-next (to-next r u) (and-then ! (load ! (from ! (stop !)) (look ! 2 refl)) (no-more !)) (λ u′.
         use1 W (later (some (λ (t : Step). ((‵ (flft κ q) ⊛ ‵ ftrue) ⊛ ‵ (S.the-row .own t (u′ ∷ []))) ⊛ raw (ensured 𝓤 H A next.ended (next.clauses 𝓤 H A mem run) (κ, tt) (r, tt) tt t)))) (id⊢ 𝓤 _) $ await ! tt $ pick ! (λ t.
         split ! $ move ! (1 ∷ []) $ use1 W (raw (fact 𝓤 (saysStep t ≡ step-of r))) (next-said r t) $ heard ! (saysStep t ≡ step-of r) (λ e′. split ! $ move ! (1 ∷ []) $
-        -- [the result; the token; what s owns; _2; …; _1; …; room for _0; …]
+        -- [the result; the token; what l and s own; _3; …; _2; …; _1; …; room for _0; …]
         peeks ! S.the-row (Is S.the-row) (shows 𝓤 H A S.the-row) t (u′ ∷ []) (λ is′.
-        land ! (from ! (stop !)) (init ! 7 refl (EL.lawful S.the-type S′.the-laws 𝓤 H A W tt .typed t _ is′ .0)) $
-        returns ! (look ! 7 refl) $ forget ! 3 refl $ forget ! 5 refl $ forget ! 7 refl $ move ! (7 ∷ 8 ∷ []) $ free1 ! $ move ! (5 ∷ 6 ∷ []) $ free1 ! $ move ! (3 ∷ 4 ∷ []) $ free1 ! $ free0 ! $
-        by ! (exits t u′ (e′ ∙ ap step-of e)))))))))))))
+        land ! (from ! (stop !)) (init ! 9 refl (EL.lawful S.the-type S′.the-laws 𝓤 H A W tt .typed t _ is′ .0)) $
+        returns ! (look ! 9 refl) $ forget ! 3 refl $ forget ! 5 refl $ forget ! 7 refl $ forget ! 9 refl $ move ! (9 ∷ 10 ∷ []) $ free1 ! $ move ! (7 ∷ 8 ∷ []) $ free1 ! $ move ! (5 ∷ 6 ∷ []) $ free1 ! $ move ! (3 ∷ 4 ∷ []) $ free1 ! $ free0 ! $
+        by ! (exits t u′ (e′ ∙ ap step-of e))))))))))))))
 
 module _ {M : Type 1} (𝓤 : URA M) (H : Heap 𝓤) (A : Atoms 𝓤) (W : Given 𝓤 H A) (mem : Memory → SProp 𝓤) (run : Routine → Fun 𝓤) where
   first-walks : (C : Calls 𝓤 H) (Λ : Loops 𝓤 H) → FmC 𝓤 H (W .laws) C → Triple 𝓤 (C #wire·list-of) (New 𝓤 H A mem run) → Triple 𝓤 (C #wire·next) (Next 𝓤 H A mem run)
       → Walks 𝓤 H A first.ended stayed (WpFn 𝓤 H C Λ code.function) (first.clauses 𝓤 H A mem run)
-  first-walks C Λ fm known-new known-next = walked 𝓤 H A first.ended stayed (first.clauses 𝓤 H A mem run) (WpFn 𝓤 H C Λ code.function) (λ κs. (slice-vals, tt)) (λ κs. (shr-slice-tells (named 0) (κs .0) u8, tt))
-      (λ κs qs bounds a g are. via 𝓤 _ (fst∗ 𝓤 _ (emp 𝓤)) (walk 𝓤 H A W mem run (κs .0) (qs .0) (a .0) C Λ fm known-new known-next (are .0)))
+  first-walks C Λ fm known-new known-next = walked 𝓤 H A first.ended stayed (first.clauses 𝓤 H A mem run) (WpFn 𝓤 H C Λ code.function) (λ κs. ((λ l. E′.lowered l ∷ []), (slice-vals, tt))) (λ κs. (E′.lowers .val-is, (shr-slice-tells (named 0) (κs .0) u8, tt)))
+      (λ κs qs bounds a g are. via 𝓤 _ (fst∗ 𝓤 _ (emp 𝓤)) (walk 𝓤 H A W mem run (κs .0) (qs .0) (a .0) (a .1 .0) C Λ fm known-new known-next (are .0) (are .1 .0)))
 
 first-meets : {M : Type 1} (𝓤 : URA M) (H : Heap 𝓤) (A : Atoms 𝓤) (W : Given 𝓤 H A) (mem : Memory → SProp 𝓤) (run : Routine → Fun 𝓤) (𝓣 : Tables 𝓤 H)
     → Triple 𝓤 (𝓣 .C #wire·list-of) (New 𝓤 H A mem run) → Triple 𝓤 (𝓣 .C #wire·next) (Next 𝓤 H A mem run)
     → Meets 𝓤 H A first.signature (WpFn 𝓤 H (𝓣 .C) (𝓣 .Λ) code.function) (first.spec 𝓤 H A mem run)
-first-meets 𝓤 H A W mem run 𝓣 known-new known-next = walk-meets 𝓤 H A first.ended stayed W (goes-none-slice 𝓤 H A W 1 (0 ∷ []) tt (plain (λ _. u8)) yes, tt) (first.clauses 𝓤 H A mem run) (WpFn 𝓤 H (𝓣 .C) (𝓣 .Λ) code.function) (WpFn-mono 𝓤 H (W .laws) 𝓣 code.function)
+first-meets 𝓤 H A W mem run 𝓣 known-new known-next = walk-meets 𝓤 H A first.ended stayed W (goes-none 𝓤 H A W 1 (λ _. E.the-row) yes (λ κs x f. refl), (goes-none-slice 𝓤 H A W 1 (0 ∷ []) tt (plain (λ _. u8)) yes, tt)) (first.clauses 𝓤 H A mem run) (WpFn 𝓤 H (𝓣 .C) (𝓣 .Λ) code.function) (WpFn-mono 𝓤 H (W .laws) 𝓣 code.function)
     (first-walks 𝓤 H A W mem run (𝓣 .C) (𝓣 .Λ) (fmOf 𝓤 H (W .laws) 𝓣) known-new known-next)
 
 pub first-spec : {M : Type 1} → stated.statement M

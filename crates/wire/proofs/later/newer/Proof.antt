@@ -1,4 +1,5 @@
 -- `wire::later::newer`: the part that `newer_place` names lies within its bytes. Assumes nothing.
+use Rattle.wire.specs.Property.{hasEnable}
 use mathlib.Core.Path.{_≡_}
 use Prim.Native.Nat.{_+_, _-_}
 use native.Mathlib.Omega.{arith}
@@ -13,14 +14,14 @@ add-end : tie.Need-add-end
 add-end c =
     let a = c .before .before .before .before .args in
     let n = c .before .newer-place .result in
-    let w = chosen-within (now (a .description)) (now (a .payload)) (bytes-of (now (a .description)) (λ i. c .before .before .before .shared-slice-known .given i .fits)) n (c .before .newer-place .ensures) in
+    let w = chosen-within (hasEnable (a .l)) (now (a .description)) (now (a .payload)) (bytes-of (now (a .description)) (λ i. c .before .before .before .shared-slice-known .given i .fits)) n (c .before .newer-place .ensures) in
     omega (arith, w .0)
 
 part-result-end : tie.Need-part-result-end
 part-result-end c =
     let a = c .before .before .before .before .before .args in
     let n = c .before .before .newer-place .result in
-    let w = chosen-within (now (a .description)) (now (a .payload)) (bytes-of (now (a .description)) (λ i. c .before .before .before .before .shared-slice-known .given i .fits)) n (c .before .before .newer-place .ensures) in
+    let w = chosen-within (hasEnable (a .l)) (now (a .description)) (now (a .payload)) (bytes-of (now (a .description)) (λ i. c .before .before .before .before .shared-slice-known .given i .fits)) n (c .before .before .newer-place .ensures) in
     omega (arith, w .1 (c .if1 .taken))
 
 returns : tie.Need-returns
@@ -34,7 +35,7 @@ part-result-end-2 : tie.Need-part-result-end-2
 part-result-end-2 c =
     let a = c .before .before .before .before .before .args in
     let n = c .before .before .newer-place .result in
-    let w = chosen-within (now (a .description)) (now (a .payload)) (bytes-of (now (a .description)) (λ i. c .before .before .before .before .shared-slice-known .given i .fits)) n (c .before .before .newer-place .ensures) in
+    let w = chosen-within (hasEnable (a .l)) (now (a .description)) (now (a .payload)) (bytes-of (now (a .description)) (λ i. c .before .before .before .before .shared-slice-known .given i .fits)) n (c .before .before .newer-place .ensures) in
     omega (arith, w .2 (c .if1 .left))
 
 returns-2 : tie.Need-returns-2

@@ -11,38 +11,45 @@ use Rattle.wire.proofs.tidy.property_len.Tie as tie
 
 add-result : tie.Need-add-result
 add-result c =
-    let k = c .before .before .before in
+    let k = c .before .before .before .before in
     let w = property-word (now (k .args .src)) (infoFrom (k .args .p)) in
     let z = ap length w ∙ parts-size (now (k .args .src)) (infoFrom (k .args .p)) in
-    omega (arith, c .before .values-len .ensures .0, c .values-len2 .ensures .0, k .pre .1)
+    omega (arith, c .enable-len .ensures, c .before .values-len2 .ensures .0, c .before .before .values-len .ensures .0, k .pre .1)
 
 add-result-2 : tie.Need-add-result-2
 add-result-2 c =
-    let k = c .before .before .before in
+    let k = c .before .before .before .before in
     let w = property-word (now (k .args .src)) (infoFrom (k .args .p)) in
     let z = ap length w ∙ parts-size (now (k .args .src)) (infoFrom (k .args .p)) in
-    omega (arith, c .before .values-len .ensures .0, c .values-len2 .ensures .0, k .pre .1)
-
-form-len-requires : tie.Need-form-len-requires
-form-len-requires c κs =
-    let k = c .before .before .before in
-    let w = property-word (now (k .args .src)) (infoFrom (k .args .p)) in
-    let z = ap length w ∙ parts-size (now (k .args .src)) (infoFrom (k .args .p)) in
-    omega (arith, k .pre .1)
+    omega (arith, c .enable-len .ensures, c .before .values-len2 .ensures .0, c .before .before .values-len .ensures .0, k .pre .1)
 
 add-result-3 : tie.Need-add-result-3
 add-result-3 c =
     let k = c .before .before .before .before in
     let w = property-word (now (k .args .src)) (infoFrom (k .args .p)) in
     let z = ap length w ∙ parts-size (now (k .args .src)) (infoFrom (k .args .p)) in
-    omega (arith, c .before .before .values-len .ensures .0, c .before .values-len2 .ensures .0, c .form-len .ensures, k .pre .1)
+    omega (arith, c .enable-len .ensures, c .before .values-len2 .ensures .0, c .before .before .values-len .ensures .0, k .pre .1)
 
-returns : tie.Need-returns
-returns c =
+form-len-requires : tie.Need-form-len-requires
+form-len-requires c κs =
     let k = c .before .before .before .before in
     let w = property-word (now (k .args .src)) (infoFrom (k .args .p)) in
     let z = ap length w ∙ parts-size (now (k .args .src)) (infoFrom (k .args .p)) in
-    omega (arith, c .before .before .values-len .ensures .0, c .before .values-len2 .ensures .0, c .form-len .ensures) ∙ sym z
+    omega (arith, k .pre .1)
+
+add-result-4 : tie.Need-add-result-4
+add-result-4 c =
+    let k = c .before .before .before .before .before in
+    let w = property-word (now (k .args .src)) (infoFrom (k .args .p)) in
+    let z = ap length w ∙ parts-size (now (k .args .src)) (infoFrom (k .args .p)) in
+    omega (arith, c .before .enable-len .ensures, c .before .before .values-len2 .ensures .0, c .before .before .before .values-len .ensures .0, c .form-len .ensures, k .pre .1)
+
+returns : tie.Need-returns
+returns c =
+    let k = c .before .before .before .before .before in
+    let w = property-word (now (k .args .src)) (infoFrom (k .args .p)) in
+    let z = ap length w ∙ parts-size (now (k .args .src)) (infoFrom (k .args .p)) in
+    omega (arith, c .before .enable-len .ensures, c .before .before .values-len2 .ensures .0, c .before .before .before .values-len .ensures .0, c .form-len .ensures) ∙ sym z
 
 pub property-len-spec : {M : Type 1} → statement M
 property-len-spec =
@@ -50,8 +57,10 @@ property-len-spec =
     (tie.spec
     (λ c κs. search needs)
     (λ c κs. search needs)
+    (λ c κs. search needs)
     add-result
     add-result-2
-    form-len-requires
     add-result-3
+    form-len-requires
+    add-result-4
     returns)
