@@ -255,7 +255,7 @@ int64_t ptp_paths(const uint32_t *handles, size_t handles_len, const uint16_t *p
 enum ptp_record_kind {
     PTP_FROM_CAMERA = 1,
     PTP_TO_CAMERA = 2,
-    PTP_NOTE = 3 /* the container's five numbers are 0 */
+    PTP_NOTE = 3 /* of old recordings: read, and no more written; the container's five numbers are 0 */
 };
 
 enum ptp_container_kind { PTP_CONTAINER_COMMAND = 1, PTP_CONTAINER_DATA = 2, PTP_CONTAINER_RESPONSE = 3, PTP_CONTAINER_EVENT = 4 };

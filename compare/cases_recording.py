@@ -5,6 +5,7 @@ import itertools
 from compare.bits import EDGES_32, Cases, hexed, maybe_damaged, room_for, some_bytes, u32
 from compare.cases_session import random_container, whole
 from model import recording
+from model.refusals import Refused
 
 MOST = recording.MOST_BODY
 KINDS = [0, 1, 2, 3, 4, 256, 257, 0xFFFF]
@@ -80,6 +81,35 @@ def one_write_record(rng):
     return write_record_case(rng, kind, maybe_damaged(rng, random_body(rng, kind)))
 
 
+def copied_recordings():
+    """None, notes alone, no notes, and both; cut at every byte; a refused record behind notes."""
+    note, sent, received = record(3, b"AB"), record(2, whole(1, 0x1002, 0, b"")), record(1, OK_RESPONSE)
+    both = note + received + record(3, b"") + sent + note
+    yield from (note * 3, received + sent + received)
+    yield from (both[:length] for length in range(len(both) + 1))
+    for refused in (record(4, b"AB"), record(3, b"", 5), record(1, OK_RESPONSE[:9]), record(1, OK_RESPONSE + b"\x00"), record(3, bytes(MOST + 1))):
+        yield from (note + note + refused, note + received + refused + note)
+    yield record(3, b"") * MANY_NOTES
+
+
+def copy_rooms(data):
+    """The exact room, one less, one more and none."""
+    try:
+        needed = len(recording.copied(data).data)
+    except Refused:
+        return (0, 2)
+    return sorted({0, max(needed, 1) - 1, needed, needed + 1})
+
+
+def short_copy(rng):
+    return (f"copy {hexed(data)} {room}" for data in itertools.chain(copied_recordings(), short_records()) for room in copy_rooms(data))
+
+
+def one_copy(rng):
+    data = maybe_damaged(rng, b"".join(random_record(rng) for _ in range(rng.randrange(9))))
+    return f"copy {hexed(data)} {room_for(rng, lambda: recording.copied(data).data)}"
+
+
 def codes_listed():
     """Every kind with codes in and around each table."""
     near = [*range(0x0FFE, 0x101F), *range(0x1FFE, 0x2023), 0, 0x4001, 0xABCD, 0xFFFF]
@@ -113,5 +143,6 @@ def one_listing(rng):
 RECORDING_CASES = {
     "record": Cases(short_record, one_record),
     "write-record": Cases(short_write_record, one_write_record),
+    "copy": Cases(short_copy, one_copy),
     "listing": Cases(short_listing, one_listing),
 }

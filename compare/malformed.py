@@ -12,7 +12,7 @@ GOOD = [
     "property book 0150", "tidy-property crate 0150 3", "nth crate 0 0150", "list book 0150", "step 00 2 0 1 0",
     "newer crate 0150 00", "header 0c00", "write-container 1 2 3 00 13", "command 0 4098 3,0,0 24",
     "command-data 0 4118 - 00 40", "call OpenSession 0 0 0 0 24", "answer 0 -", "handles 00000000",
-    "walk 1 0 1 00", "path 1 0 1 00 0 4", "paths 1 0 1 00 4", "record 00", "write-record 3 41 9", "listing -",
+    "walk 1 0 1 00", "path 1 0 1 00 0 4", "paths 1 0 1 00 4", "record 00", "write-record 3 41 9", "copy 060000000300 1", "listing -",
     "response-name 8193", "command-name 4098",
 ]
 BAD_WORDS = ["", "x", "-1", "+1", "1.", "0x", "0X10", "0xg", "1,", ",1", "1,,2", "--", "0g", "123", "\t", "1:2", "1:", "undefined",

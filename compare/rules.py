@@ -17,7 +17,7 @@ MOST_NAME_BYTES = 100_000
 # What the port adds has no answer of the Rust's.
 ADDED = {
     "tidy-device": "D1", "tidy-object": "D1", "tidy-storage": "D1", "tidy-property": "D1",
-    "record": "D2", "write-record": "D2", "listing": "D2",
+    "record": "D2", "write-record": "D2", "copy": "D2", "listing": "D2",
     "nth": "D3", "list": "D3", "step": "D3", "newer": "D3",
     "write-string": "D4",
     "panel": "D29",

@@ -19,7 +19,7 @@ class Door(unittest.TestCase):
         return box
 
     def built(self, program=CAT, **words):
-        return self.sandbox(program, **words).built("list", "ask")
+        return self.sandbox(program, **words).built("list", "copy", "ask")
 
 
 class Words(Door):
@@ -29,9 +29,9 @@ class Words(Door):
         self.assertEqual((status, said), (0, ""))
         for words in (["--help"], ["-h"], ["list", "--help"], ["wrong", "-h"]):
             self.assertEqual(box.run(*words, kit=False), (0, page, ""), words)
-        for command in ("list", "ask", "compare", "rust", "bench", "wrong", "test", "help"):
+        for command in ("list", "copy", "ask", "compare", "rust", "bench", "wrong", "test", "help"):
             self.assertIn(f"\n./ptp {command}", "\n" + page)
-        for command in ("list", "ask", "compare", "rust", "bench", "wrong", "test"):
+        for command in ("list", "copy", "ask", "compare", "rust", "bench", "wrong", "test"):
             self.assertRegex(page, rf"\n {{10,}}(echo .* \| )?\./ptp {command}")
 
     def refused(self, box, words, named):
@@ -58,6 +58,15 @@ class Words(Door):
         self.refused(box, ["ask", "missing.questions"], "missing.questions")
         self.refused(box, ["list", "--follow"], "--follow")
         self.refused(box, ["list", "--follow", "-"], "--follow")
+        self.refused(box, ["copy"], "IN and OUT")
+        self.refused(box, ["copy", there], "IN and OUT")
+        self.refused(box, ["copy", there, "made", "more"], "IN and OUT")
+        self.refused(box, ["copy", "--check", there], "--check")
+        self.refused(box, ["copy", "missing.recording", "made"], "missing.recording")
+        self.refused(box, ["copy", there, box.home], str(box.home))
+        self.refused(box, ["copy", there, "missing/made"], "missing")
+        self.refused(box, ["copy", there, there], "one file")
+        self.refused(box, ["copy", there, box.home / "crates" / ".." / "crates.txt"], "one file")
         self.refused(box, ["rust", "word"], "word")
         self.refused(box, ["test", "word"], "word")
         self.refused(box, ["compare", "1", "many"], "many")
@@ -76,6 +85,33 @@ class Words(Door):
         self.assertEqual(box.run("list", input=b"piped"), (0, "piped", ""))
         self.assertEqual(box.run("list", "-", input=b"piped"), (0, "piped", ""))
         self.assertEqual(box.run("list", "a file", cwd="/"), (2, "", "ptp: there is no file a file\n"))
+
+
+class Copies(Door):
+    REPORT = "left out 2 records 13 bytes\n"
+
+    def copied(self, said, *made, status=0):
+        """What is left of a file that is there, or is not, after a program that copies its input and says this."""
+        box = self.built(f"#!/bin/sh\ncat\nprintf '%s' '{said}' >&2\nexit {status}\n")
+        (box.folder / "given").write_bytes(b"records")
+        for data in made:
+            (box.folder / "made").write_bytes(data)
+        answer = box.run("copy", "given", "made")
+        left = sorted(path.name for path in box.folder.iterdir() if path.is_file())
+        return answer, left, (box.folder / "made").read_bytes() if "made" in left else None
+
+    def test_a_copy_is_moved_to_its_place(self):
+        for made in ((), (b"before",)):
+            self.assertEqual(self.copied(self.REPORT, *made), ((0, "", self.REPORT), ["given", "made"], b"records"))
+
+    def test_a_refused_recording_leaves_all_as_it_was(self):
+        for said in ("7 refusal 1 10\n", "copy: writing standard output: it broke\n"):
+            self.assertEqual(self.copied(said), ((1, "", said), ["given"], None))
+            self.assertEqual(self.copied(said, b"before"), ((1, "", said), ["given", "made"], b"before"))
+
+    def test_a_program_that_says_nothing_or_fails_has_copied_nothing(self):
+        self.assertEqual(self.copied("", b"before"), ((1, "", ""), ["given", "made"], b"before"))
+        self.assertEqual(self.copied(self.REPORT, b"before", status=3), ((1, "", self.REPORT), ["given", "made"], b"before"))
 
 
 class Statuses(Door):

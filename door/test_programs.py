@@ -9,6 +9,7 @@ import tempfile
 import unittest
 
 from door.sandbox import ROOT, read_some, result
+from examples import cuts
 
 PTP = ROOT / "ptp"
 EXAMPLES = ROOT / "examples"
@@ -41,6 +42,10 @@ class Programs(unittest.TestCase):
 
     def test_an_empty_recording(self):
         self.assertEqual(result([PTP, "list"], input=b""), (0, "place way kind code tid bytes\nrecords 0 bytes 0\n", ""))
+
+    def test_every_example_is_copied(self):
+        for path in sorted(EXAMPLES.glob("*.recording")):
+            self.assertTrue(cuts.copies_well([PTP, "copy"], path.read_bytes()), path)
 
     def test_ask(self):
         self.assertEqual(result([PTP, "ask"], input=b"response-name 0x2001\nno question\n"), (0, "ok Ok\n?\n", ""))

@@ -1,8 +1,9 @@
-"""Judges a program that lists recordings, by the model: the examples, cut and damaged recordings, and long ones.
+"""Judges a program that lists or copies recordings, by the model: the examples, cut and damaged recordings, and long ones.
 
-    python3 -m examples.cuts [--seed SEED] COMMAND ..
+    python3 -m examples.cuts [--seed SEED] [--copy] COMMAND ..
 
-COMMAND reads a recording from standard input and writes its listing. It is given every example of this folder, a small
+COMMAND reads a recording from standard input and writes its listing; with --copy it takes two files more, a recording and
+where its copy goes, and its report is judged too, and that a refused recording leaves the second file as it was. It is given every example of this folder, a small
 recording cut at every byte, a thousand damaged ones, and some that are longer than any buffer. Each difference is
 printed, and last `COUNT compared, N differ`.
 """
@@ -12,16 +13,20 @@ import pathlib
 import random
 import subprocess
 import sys
+import tempfile
 
 from compare.bits import damaged
 from compare.cases_recording import random_record, record, small_recording, whole
 from model import listing
-from model.recording import MOST_BODY
+from model.recording import MOST_BODY, copied, read_record
+from model.refusals import Refused
 
 FOLDER = pathlib.Path(__file__).resolve().parent
 DAMAGED = 1000
 LONG_BYTES = 3_000_000
 SHOWN = 200
+# What stands in the second file before a copy.
+BEFORE = b"as it was"
 
 
 def examples():
@@ -95,20 +100,54 @@ def all_cases(seed):
     yield from longest(rng)
 
 
+def first_refusal(data):
+    """The line that a refused recording has in its listing."""
+    at = 0
+    try:
+        while True:
+            at = read_record(data, at).after
+    except Refused as refused:
+        return f"{at} refusal {refused.seen_from(at)}\n"
+
+
+def copy_due(data):
+    """Status, second file and report."""
+    try:
+        made = copied(data)
+    except Refused:
+        return 1, BEFORE, first_refusal(data)
+    return 0, made.data, f"left out {made.records} records {made.left} bytes\n"
+
+
+def copies_well(command, data):
+    with tempfile.TemporaryDirectory() as folder:
+        given, made = pathlib.Path(folder) / "given", pathlib.Path(folder) / "made"
+        given.write_bytes(data)
+        made.write_bytes(BEFORE)
+        run = subprocess.run([*command, given, made], stdout=subprocess.PIPE, stderr=subprocess.PIPE)
+        found = run.returncode, made.read_bytes(), run.stderr.decode("latin-1")
+        return found == copy_due(data) and not run.stdout and len(list(pathlib.Path(folder).iterdir())) == 2
+
+
+def lists_well(command, data, expected):
+    run = subprocess.run(command, input=data, stdout=subprocess.PIPE)
+    return run.returncode == 0 and run.stdout.decode("latin-1") == expected
+
+
 def main():
-    parser = argparse.ArgumentParser(description="judge a program that lists recordings")
+    parser = argparse.ArgumentParser(description="judge a program that lists or copies recordings")
     parser.add_argument("--seed", default="1")
+    parser.add_argument("--copy", action="store_true")
     parser.add_argument("command", nargs=argparse.REMAINDER)
     given = parser.parse_args()
     if not given.command:
         parser.error("no command given")
     count = differ = 0
     for name, data, expected in all_cases(given.seed):
-        run = subprocess.run(given.command, input=data, stdout=subprocess.PIPE)
         count += 1
-        if run.returncode != 0 or run.stdout.decode("latin-1") != expected:
+        if not (copies_well(given.command, data) if given.copy else lists_well(given.command, data, expected)):
             differ += 1
-            print(f"differs: {name}, status {run.returncode}, {data[:SHOWN].hex()}")
+            print(f"differs: {name}, {data[:SHOWN].hex()}")
     print(f"{count} compared, {differ} differ")
     return 1 if differ else 0
 

@@ -9,7 +9,7 @@ reads the bytes, must give the same listing. No code of the crates takes part.
 A description's lines, each one record (a line that begins with a space goes on with the one before, # begins a comment):
 
     out|in KIND CODE NUMBER FIELD ..    a container, sent or received; CODE is a name, or 0x and four digits
-    note "TEXT"  or  note FIELD ..      an operator's note
+    note "TEXT"  or  note FIELD ..      an operator's note, of a recording that is old
     raw FIELD .. refusal NO [AT]        bytes that are refused with this number and place; `refusal -`: not reached any more
 
 A field is [LABEL=]TYPE:VALUE with the types u8, u16, u32, u64, string, array16, array32, hex and zeros (a count).
@@ -90,7 +90,7 @@ def container_line(way, kind, code, number, *words):
 def note_line(_, *words):
     is_text = len(words) == 1 and not FIELD.fullmatch(words[0])
     body = words[0].encode("utf-8") if is_text else fields(words)
-    return Made(record(NOTE, body), f"note {len(body)}", True)
+    return Made(record(NOTE, body), f"old-note {len(body)}", True)
 
 
 def raw_line(_, *words):

@@ -349,6 +349,16 @@ def write_record(kind, body, size):
     return writing_bytes(size, recording.write_record, kind, body)
 
 
+def copy(data, size):
+    """The writer's answer, then the records and the bytes that were left out."""
+    try:
+        made = recording.copied(data)
+        refuse_if(len(made.data) > size, ROOM)
+    except Refused as refused:
+        return f"no {refused} {laid_out(size, b'')}"
+    return ok(len(made.data), laid_out(size, made.data), made.records, made.left)
+
+
 def whole_listing(data):
     return ok(listing.listing(data).replace("\n", "\\n"))
 
@@ -399,6 +409,7 @@ QUESTIONS = {
     "paths": ((*TABLE_WORDS, room), paths),
     "record": ((hex_bytes,), record),
     "write-record": ((u16, hex_bytes, room), write_record),
+    "copy": ((hex_bytes, room), copy),
     "listing": ((hex_bytes,), whole_listing),
 }
 

@@ -21,7 +21,7 @@ def code_word(kind, code):
 
 def record_line(place, record, data):
     if record.kind == NOTE:
-        return f"{place} note {record.length}\n"
+        return f"{place} old-note {record.length}\n"
     header = read_header(data, record.start)
     way = "out" if record.kind == SENT else "in"
     return (f"{place} {way} {KIND_WORDS[header.kind]} {code_word(header.kind, header.code)} "

@@ -13,8 +13,12 @@ MOST_BODY = 65_000
 Record = namedtuple("Record", "kind start length after")
 
 
-def check_kind(kind):
-    refuse_if(not RECEIVED <= kind <= NOTE, RECORD)
+# What a copy is, and the notes that it leaves out: how many, and their bytes with the six of each header.
+Copy = namedtuple("Copy", "data records left")
+
+
+def check_kind(kind, highest):
+    refuse_if(not RECEIVED <= kind <= highest, RECORD)
 
 
 def check_body(kind, body):
@@ -30,7 +34,7 @@ def read_record(data, at=0, most=MOST_BODY):
     length, kind_at = read_number(data, at, 4)
     kind, start = read_number(data, kind_at, 2)
     refuse_if(length < RECORD_HEADER, RECORD)
-    check_kind(kind)
+    check_kind(kind, NOTE)
     refuse_if(length - RECORD_HEADER > most, LONG)
     body, after = take(data, start, length - RECORD_HEADER, start)
     try:
@@ -41,8 +45,18 @@ def read_record(data, at=0, most=MOST_BODY):
 
 
 def write_record(kind, body):
-    """By the same rules: 13, 14, the container's."""
-    check_kind(kind)
+    """By the same rules: 13, 14, the container's. A note is no more written."""
+    check_kind(kind, SENT)
     refuse_if(len(body) > MOST_BODY, LONG)
     check_body(kind, body)
     return (RECORD_HEADER + len(body)).to_bytes(4, "little") + kind.to_bytes(2, "little") + body
+
+
+def copied(data):
+    """The recording without its notes; or its first refusal, the place in the data."""
+    at, kept, left = 0, [], []
+    while at < len(data):
+        record = read_record(data, at)
+        (left if record.kind == NOTE else kept).append(data[at:record.after])
+        at = record.after
+    return Copy(b"".join(kept), len(left), sum(map(len, left)))

@@ -1,5 +1,5 @@
 
-// The listing of a large recording, of short records and of long ones.
+// The listing and the copy of a large recording, of short records and of long ones.
 
 mod listing {
     use super::*;
@@ -44,28 +44,30 @@ mod listing {
 
     fn run_time(program: &str, input: &str) -> f64 {
         let began = Instant::now();
-        let done = process::Command::new(program).stdin(File::open(input).expect("the recording")).stdout(Stdio::null()).status();
+        let done = process::Command::new(program).stdin(File::open(input).expect("the recording")).stdout(Stdio::null()).stderr(Stdio::null()).status();
         assert!(done.expect("the program runs").success());
         nanoseconds(began)
     }
 
-    fn measured(program: &str, path: &str, few: &[Vec<u8>], what: &str) {
+    fn measured(lists: &str, copies: &str, path: &str, few: &[Vec<u8>], what: &str) {
         let count = write_recording(path, few).expect("the recording is written");
         let size = fs::metadata(path).expect("the recording").len() as f64;
         let mut list = vec![];
+        let mut copy = vec![];
         let mut cat = vec![];
         for _ in 0..LISTINGS {
-            list.push(run_time(program, path));
+            list.push(run_time(lists, path));
+            copy.push(run_time(copies, path));
             cat.push(run_time("cat", path));
         }
         println!();
-        println!("A recording of {:.0} MB in {} {}, to /dev/null, medians of {} runs: our listing {:.0} MB/s, `cat` {:.0} MB/s.",
-                 size / 1e6, count, what, LISTINGS, size / median(list) * 1e3, size / median(cat) * 1e3);
+        println!("A recording of {:.0} MB in {} {}, to /dev/null, medians of {} runs: our listing {:.0} MB/s, our copy {:.0} MB/s, `cat` {:.0} MB/s.",
+                 size / 1e6, count, what, LISTINGS, size / median(list) * 1e3, size / median(copy) * 1e3, size / median(cat) * 1e3);
     }
 
-    pub fn listing(program: &str, path: &str) {
-        measured(program, path, &short_records(), "short records");
-        measured(program, path, &long_records(8192), "records with bodies of 8,192 bytes");
-        measured(program, path, &long_records(65_000), "records with bodies of 65,000 bytes");
+    pub fn listing(lists: &str, copies: &str, path: &str) {
+        measured(lists, copies, path, &short_records(), "short records");
+        measured(lists, copies, path, &long_records(8192), "records with bodies of 8,192 bytes");
+        measured(lists, copies, path, &long_records(65_000), "records with bodies of 65,000 bytes");
     }
 }

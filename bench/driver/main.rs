@@ -1,7 +1,7 @@
 
 // The text of this folder is the project's: our exported functions beside the crate's own, on the same inputs, in one process.
 //
-//     bench LIST RECORDING      LIST is our listing program; RECORDING is written, listed and left
+//     bench LIST COPY RECORDING      LIST and COPY are our programs; RECORDING is written, listed, copied and left
 //
 // Each line is tried first: both sides must agree. Then rounds of ours and theirs take turns.
 
@@ -16,7 +16,7 @@ fn main() {
     containers::containers();
     trees::trees();
     names::names();
-    if words.len() == 2 {
-        listing::listing(&words[0], &words[1]);
+    if words.len() == 3 {
+        listing::listing(&words[0], &words[1], &words[2]);
     }
 }

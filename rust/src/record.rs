@@ -29,7 +29,7 @@ pub struct PtpContainer<'a> {
     pub payload: &'a [u8],
 }
 
-/// Which way a record's container went, or that the record is a note.
+/// Which way a record's container went, or that the record is a note: those are read, and no more written.
 #[derive(Clone, Copy, Debug, PartialEq, Eq)]
 #[repr(u16)]
 pub enum RecordKind {

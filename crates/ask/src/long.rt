@@ -4,6 +4,7 @@ use crate::listed;
 use crate::reads;
 use crate::show;
 use layout::Written;
+use recording::Copied;
 use wire::Chosen;
 use words::args::Args;
 use words::print;
@@ -93,6 +94,31 @@ fn paths(
     )
 }
 
+// The copier's answer, then the records and the bytes that were left out.
+fn print_copied(c: Copied, page: &[u8], text: &mut [u8], at: usize) -> usize {
+    match c {
+        Copied::Done(n, left) => {
+            let told = show::tell(text, at, page, told::ok().number(n as u64));
+            let o = print::output(text, told, page);
+            let a = print::put(text, o, b' ');
+            let b = print::decimal(text, a, left.records as u64);
+            let d = print::put(text, b, b' ');
+            print::decimal(text, d, left.bytes as u64)
+        }
+        Copied::Refused(f) => {
+            let told = show::tell(text, at, page, told::refused(f));
+            print::output(text, told, page)
+        }
+    }
+}
+
+fn copy(a: Args, src: &[u8], text: &mut [u8], at: usize) -> usize {
+    let mut out = crate::out_room();
+    let page = print::page(&mut out, a.room);
+    let c = recording::copy_records(src, page);
+    print_copied(c, page, text, at)
+}
+
 // By the letter of the question's arm.
 pub fn of(
     arm: u8,
@@ -109,6 +135,7 @@ pub fn of(
         b'n' => newer(a, line, text, at),
         b'w' => walk(a, src, halves, numbers, text, at),
         b'p' => paths(a, src, halves, numbers, text, at),
+        b'c' => copy(a, src, text, at),
         b'L' => listed::answer(src, text, at),
         _ => print::unknown(text, at),
     }

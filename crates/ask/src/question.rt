@@ -10,7 +10,7 @@ pub const READS: u8 = b'r';
 
 pub const WRITES: u8 = b'w';
 
-const TABLE: [u8; 670] = *b"\
+const TABLE: [u8; 681] = *b"\
     response-name rR 2;\
     command-name rC 2;\
     value rv 28b;\
@@ -53,6 +53,7 @@ const TABLE: [u8; 670] = *b"\
     paths lp nhnbr;\
     record rr b;\
     write-record wr 2br;\
+    copy lc br;\
     listing lL b";
 
 pub struct Question {

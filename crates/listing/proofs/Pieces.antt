@@ -56,7 +56,7 @@ pub counts-length : (number count : ℕ) → length (countsText number count) �
 unfolding countsText
 counts-length number count = simp length-append (omega arith)
 
-pub note-length : (place count : ℕ) → length (noteLine place count) ≡ length (decimal place) + length (decimal count) + 7
+pub note-length : (place count : ℕ) → length (noteLine place count) ≡ length (decimal place) + length (decimal count) + 11
 unfolding noteLine
 note-length place count = simp length-append (omega arith)
 

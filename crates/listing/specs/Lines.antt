@@ -56,8 +56,9 @@ heading = spelled "place way kind code tid bytes\n"
 unfoldable pub containerLine : ℕ → ℕ → Container → List ℕ
 containerLine place kind x = decimal place ++ wayText kind ++ kindText (x .kind) ++ codeText (x .kind) (x .code) ++ countsText (x .number) (x .payload .count)
 
+-- a note of an old recording: none is written now
 unfoldable pub noteLine : ℕ → ℕ → List ℕ
-noteLine place count = decimal place ++ spelled " note " ++ decimal count ++ spelled "\n"
+noteLine place count = decimal place ++ spelled " old-note " ++ decimal count ++ spelled "\n"
 
 -- where the field that failed begins, from the record's start; nothing of a refusal that has no place
 unfoldable pub atText : Told → List ℕ

@@ -143,7 +143,7 @@ fn put_note(place: u64, count: u64, out: &mut [u8], at: usize) -> usize
     ensures { λ r. ⌜ Put (now (out .entry)) at (noteLine place count) (now (out .exit)) r ⌝ }
 {
     let a = decimal::put_place(place, out, at);
-    let b = put_bytes(b" note ", out, a);
+    let b = put_bytes(b" old-note ", out, a);
     let c = decimal::put(count, out, b);
     put_bytes(b"\n", out, c)
 }

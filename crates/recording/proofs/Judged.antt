@@ -20,7 +20,7 @@ use Rattle.wire.specs.Tests.{_gives_else_, holds, fails, Otherwise, otherwise}
 use Rattle.wire.specs.Refused.{announced, kindIn, ContainerTests, containerIn, ContainerSays}
 use Rattle.wire.specs.declared.container.Container.{Container}
 use Rattle.wire.proofs.laws.Judged.{one-test, one-otherwise, till, goes-on, enough, least-row, field-row, beyond, container-judged}
-use Rattle.recording.specs.Record.{limit, isKind, begins, contentAt, bodyAt, headOf, recordOf, saysRecord}
+use Rattle.recording.specs.Record.{limit, isKind, begins, contentAt, bodyAt, headAt, headOf, recordAt, recordOf, saysRecord}
 use Rattle.recording.specs.Refused.{HeadTests, bodyIn, recordIn, FilledSays, ContentSays, RecordSays}
 use Rattle.recording.specs.declared.Head.{Head}
 use Rattle.recording.specs.Content as content
@@ -64,7 +64,7 @@ body-row s l h = go (spanAt 6 (announced s - 6) s 6) (spanned 6 (announced s - 6
     go (refused t) (short k) = holds (omega arith)
 
 pub head-judged : (s : List ℕ) → HeadSays s (headOf s)
-unfolding headOf bodyAt
+unfolding headAt bodyAt
 head-judged s =
     field-row 4 0 s 0 0 _ (lit≤ tt) refl refl λ a ea _.
     field-row 2 4 s 0 4 _ (lit≤ tt) ea refl λ b eb hb.
@@ -142,7 +142,7 @@ module _ (s : List ℕ) (six : 6 ≤ announced s) (whole : announced s ≤ lengt
 -- ── the record ──
 
 pub record-judged : (s : List ℕ) → RecordSays s (recordOf s)
-unfolding recordOf after till-body
+unfolding recordAt after till-body
 record-judged s = beyond-head s _ rest (headOf s) (head-judged s)
   where
     rest : (x : Answer Head) → 6 ≤ announced s → announced s ≤ length s → Otherwise (got (headIn s) (announced s)) x →

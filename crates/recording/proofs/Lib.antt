@@ -5,3 +5,6 @@ pub mod Judged
 pub mod Lasting
 pub mod ReadBack
 pub mod Told
+pub mod Placed
+pub mod Moved
+pub mod Copying

@@ -1,4 +1,4 @@
--- What `write_record` writes, `read_record` reads back. Of the bytes of a record that was written no test of specs/Refused holds: not the record's own, by its two numbers, and
+-- What `write_record` writes, `read_record` reads back, and it is no note. Of the bytes of a record that was written no test of specs/Refused holds: not the record's own, by its two numbers, and
 -- not the container's, for none held when the writer tried the body, and where the body stands changes none of them.
 -- Assumes nothing.
 use mathlib.Core.Path.{_≡_, refl, sym, ap, _∙_}
@@ -27,9 +27,9 @@ use Rattle.wire.specs.declared.container.Container.{Container}
 use Rattle.wire.proofs.laws.Contained.{Boxed, container-stands, container-length}
 use Rattle.wire.proofs.laws.Judged.{container-judged}
 use Rattle.wire.proofs.laws.ReadBack as wire
-use Rattle.recording.specs.Record.{limit, isKind, contentAt, recordOf, recordWord, recordSaid, saysRecord}
+use Rattle.recording.specs.Record.{limit, isWritten, contentAt, recordOf, recordWord, recordSaid, saysRecord}
 use Rattle.recording.specs.Refused.{bodyIn, recordIn, ContentSays, RecordSays}
-use Rattle.recording.specs.Returned.{Held, a-note, a-container, ReturnsRecord, ReturnsContainer}
+use Rattle.recording.specs.Returned.{Held, a-container, ReturnsRecord, ReturnsContainer}
 use Rattle.recording.specs.Content.{Content, Record}
 use Rattle.recording.specs.Content as content
 use Rattle.recording.specs.declared.ReadRecord.{ReadRecord}
@@ -38,21 +38,20 @@ use Rattle.recording.proofs.Recorded.{record-length}
 
 -- ── what the writer was content with ──
 
--- a body that it took: a note, or a container that fills it
+-- a body that it took: a container that fills it. A note it takes no more
 pub data Taken (kind : ℕ) (body : List ℕ) : Type 0 where
-  note : kind ≡ 3 → Taken kind body
   filled : (x : Container) → (kind ≡ 3 → ⊥) → containerAt body 0 ≡ got x (length body) → Taken kind body
 
 record Due (kind : ℕ) (body w : List ℕ) : Type 0 where
   pub low : 1 ≤ kind
-  pub high : kind ≤ 3
+  pub high : kind ≤ 2
   pub small : length body ≤ limit
   pub taken : Taken kind body
   pub word : w ≡ recordWord kind body
 
-taken-by : (kind : ℕ) (body : List ℕ) (c : Content) (n : ℕ) → contentAt kind body 0 ≡ got c n → Taken kind body
+taken-by : (kind : ℕ) (body : List ℕ) (c : Content) (n : ℕ) → (kind ≡ 3 → ⊥) → contentAt kind body 0 ≡ got c n → Taken kind body
 unfolding contentAt after
-taken-by kind body c n e = go (eqb kind 3) refl e
+taken-by kind body c n no-note e = go (eqb kind 3) refl e
   where
     ends : (x : Container) (m : ℕ) → containerAt body 0 ≡ got x m → (kind ≡ 3 → ⊥) → (b : Bool) → eqb m (length body) ≡ b → pick b (got (content.holds x) m) (refused (bare TRAIL)) ≡ got c n → Taken kind body
     ends x m is other true h f = let same : m ≡ length body = eqb-true m (length body) h in filled x other (rw same at is)
@@ -64,17 +63,18 @@ taken-by kind body c n e = go (eqb kind 3) refl e
 
     go : (b : Bool) → eqb kind 3 ≡ b →
         pick b (got content.note (length body)) (after (containerAt body 0) λ x m. pick (eqb m (length body)) (got (content.holds x) m) (refused (bare TRAIL))) ≡ got c n → Taken kind body
-    go true h f = note (eqb-true kind 3 h)
+    go true h f = absurd (no-note (eqb-true kind 3 h))
     go false h f = of (containerAt body 0) refl (eqb-false kind 3 h) f
 
 due : (kind : ℕ) (body w : List ℕ) → recordSaid kind body ≡ says w → Due kind body w
-unfolding recordSaid isKind saidOf means
-due kind body w e = go (leb 1 kind) refl (leb kind 3) refl (leb (length body) limit) refl (contentAt kind body 0) refl e
+unfolding recordSaid isWritten saidOf means
+due kind body w e = go (leb 1 kind) refl (leb kind 2) refl (leb (length body) limit) refl (contentAt kind body 0) refl e
   where
-    go : (a : Bool) → leb 1 kind ≡ a → (b : Bool) → leb kind 3 ≡ b → (c : Bool) → leb (length body) limit ≡ c → (y : Answer Content) → contentAt kind body 0 ≡ y →
+    go : (a : Bool) → leb 1 kind ≡ a → (b : Bool) → leb kind 2 ≡ b → (c : Bool) → leb (length body) limit ≡ c → (y : Answer Content) → contentAt kind body 0 ≡ y →
         pick (pick a b false) (pick c (saidOf (means (λ _. recordWord kind body) y)) (no (bare LONG))) (no (bare RECORD)) ≡ says w → Due kind body w
     go true h true k true l (got x n) is f =
-        record { low = leb-true 1 kind h; high = leb-true kind 3 k; small = leb-true (length body) limit l; taken = taken-by kind body x n is; word = cc }
+        let high : kind ≤ 2 = leb-true kind 2 k in
+        record { low = leb-true 1 kind h; high = high; small = leb-true (length body) limit l; taken = taken-by kind body x n (λ three. omega arith) is; word = cc }
     go true h true k true l (refused t) is f = zero-one (cc)
     go true h true k false l y is f = zero-one (cc)
     go true h false k c l y is f = zero-one (cc)
@@ -100,7 +100,7 @@ moved : (body : List ℕ) {P : Answer Container → Type 0} {Q : Answer Record �
     ContainerTests 0 body P x → ContainerTests 6 body Q y
 moved body e f = passed e (passed e (passed e (passed e (passed e (passed e (passed e f))))))
 
-module _ (kind : ℕ) (body behind : List ℕ) (low : 1 ≤ kind) (high : kind ≤ 3) (small : length body ≤ limit) where
+module _ (kind : ℕ) (body behind : List ℕ) (low : 1 ≤ kind) (high : kind ≤ 2) (small : length body ≤ limit) where
   word : List ℕ
   word = recordWord kind body ++ behind
 
@@ -139,9 +139,6 @@ module _ (kind : ℕ) (body behind : List ℕ) (low : 1 ≤ kind) (high : kind �
   abbrev answer : Content → Answer Record
   answer c = got (recordIn word c) (announced word)
 
-  of-note : kind ≡ 3 → RecordSays word (answer content.note)
-  of-note e = own (holds (is-kind ∙ e))
-
   -- the container fills the body
   fills : (x : Container) → containerAt body 0 ≡ got x (length body) → (12 ≤ length body) × (announced body ≡ length body)
   fills x is =
@@ -171,19 +168,12 @@ module _ (kind : ℕ) (body behind : List ℕ) (low : 1 ≤ kind) (high : kind �
       rw (count, drop-append-le 12 body behind (f .0)) (take-append-seam (drop 12 body) behind)
 
   returned : (y : Answer Record) (n : ℕ) → y ≡ recordOf word → n ≡ 6 + length body → Taken kind body → ReturnsRecord kind body word n y
-  returned y n e h (note three) = record {
-    found = recordIn word content.note;
-    answer = rw (h ∙ sym is-announced) (e ∙ record-one word (recordOf word) (answer content.note) (record-judged word) (of-note three));
-    same-kind = is-kind;
-    holds = is-body;
-    held = a-note three;
-  }
   returned y n e h (filled x other is) = record {
     found = recordIn word (content.holds (containerIn 6 (bodyIn word)));
     answer = rw (h ∙ sym is-announced) (e ∙ record-one word (recordOf word) (answer (content.holds (containerIn 6 (bodyIn word)))) (record-judged word) (of-container x other is));
     same-kind = is-kind;
     holds = is-body;
-    held = a-container other (ap kindIn is-body) (ap codeIn is-body) (ap numberIn is-body) (payload-there x is);
+    held = a-container (ap kindIn is-body) (ap codeIn is-body) (ap numberIn is-body) (payload-there x is);
   }
 
 -- ── of the functions' own answers ──
@@ -229,10 +219,10 @@ module _ (kind code tid : ℕ) (payload old written : List ℕ) (m : ℕ) (code-
       sym (take-all (length payload) (drop 12 box) (omega (arith, length-drop 12 box)))
       ∙ wire.payload-there kind code tid payload [] (was-due .known) code-fits tid-fits (was-due .small) box 0 box-stands
 
-  pub container-recorded : (way : ℕ) (old′ new : List ℕ) (n : ℕ) → (way ≡ 3 → ⊥) → Wrote (recordSaid way (take m written)) old′ (got tt n) new →
+  pub container-recorded : (way : ℕ) (old′ new : List ℕ) (n : ℕ) → Wrote (recordSaid way (take m written)) old′ (got tt n) new →
       (r : ReadRecord) → saysRecord r ≡ recordOf new → ReturnsContainer way kind code tid payload new n (saysRecord r)
   unfolding box
-  container-recorded way old′ new n no-note recorded r e =
+  container-recorded way old′ new n recorded r e =
       let b = record-returns way (take m written) old′ new n recorded r e in
       let h = holding (b .found .content) (b .held) in
       record {
@@ -247,7 +237,6 @@ module _ (kind code tid : ℕ) (payload old written : List ℕ) (m : ℕ) (code-
         holds = h .1 .4 ∙ payload-is;
       }
     where
-      holding : (c : Content) → Held (take m written) new way c →
+      holding : (c : Content) → Held (take m written) new c →
           (x : Container) × ((c ≡ content.holds x) × (x .kind ≡ kindIn (take m written)) × (x .code ≡ codeIn (take m written)) × (x .number ≡ numberIn (take m written)) × (partOf new (x .payload) ≡ drop 12 (take m written)))
-      holding c (a-note three) = absurd (no-note three)
-      holding c (a-container {x = x} other k l t p) = (x, (refl, k, l, t, p))
+      holding c (a-container {x = x} k l t p) = (x, (refl, k, l, t, p))

@@ -20,7 +20,7 @@ use Rattle.layout.proofs.laws.Stored.{first, more}
 use Rattle.layout.specs.Refusals.{END, RECORD, LONG}
 use Rattle.wire.specs.Places.{numAt}
 use Rattle.recording.specs.Content.{Content}
-use Rattle.recording.specs.Record.{limit, isKind, begins, contentAt, bodyAt, recordWord, recordSaid}
+use Rattle.recording.specs.Record.{limit, isKind, isWritten, begins, contentAt, bodyAt, recordWord, recordSaid}
 
 -- a number that was read ends within the bytes
 pub field-ends : (w : ℕ) (s : List ℕ) (at : ℕ) {v n : ℕ} → got v n ≡ numAt w s at → 0 < w → n ≤ length s
@@ -73,18 +73,18 @@ module _ (kind : ℕ) (body : List ℕ) where
       (bytes 2 kind) (simp length-bytes (omega arith)) q)
       body (simp (length-append, length-bytes) (omega arith)) (rw (take-length body) at r)
 
-  pub said-13 : isKind kind ≡ false → recordSaid kind body ≡ no (bare RECORD)
+  pub said-13 : isWritten kind ≡ false → recordSaid kind body ≡ no (bare RECORD)
   unfolding recordSaid
   said-13 e = rw e
 
-  pub said-14 : isKind kind ≡ true → limit < length body → recordSaid kind body ≡ no (bare LONG)
+  pub said-14 : isWritten kind ≡ true → limit < length body → recordSaid kind body ≡ no (bare LONG)
   unfolding recordSaid
   said-14 e h = rw (e, lt-leb (length body) limit h)
 
-  pub said-refused : isKind kind ≡ true → length body ≤ limit → {t : Told} → refused t ≡ contentAt kind body 0 → recordSaid kind body ≡ no t
+  pub said-refused : isWritten kind ≡ true → length body ≤ limit → {t : Told} → refused t ≡ contentAt kind body 0 → recordSaid kind body ≡ no t
   unfolding recordSaid saidOf means
   said-refused e h r = rw (e, le-leb (length body) limit h, ← r)
 
-  pub said-bytes : isKind kind ≡ true → length body ≤ limit → {x : Content} {n : ℕ} → got x n ≡ contentAt kind body 0 → recordSaid kind body ≡ says (recordWord kind body)
+  pub said-bytes : isWritten kind ≡ true → length body ≤ limit → {x : Content} {n : ℕ} → got x n ≡ contentAt kind body 0 → recordSaid kind body ≡ says (recordWord kind body)
   unfolding recordSaid saidOf means
   said-bytes e h r = rw (e, le-leb (length body) limit h, ← r)

@@ -15,7 +15,7 @@ use Rattle.layout.proofs.laws.Told.{Telling, read, ended, spoilt, other, plainl
 use Rattle.layout.proofs.laws.Accepted.{Accepts}
 use Rattle.wire.proofs.laws.Told.{container-telling}
 use Rattle.recording.specs.Content.{Record}
-use Rattle.recording.specs.Record.{limit, begins, contentAt, bodyAt, headOf, recordOf, saysHead, saysRecord}
+use Rattle.recording.specs.Record.{limit, begins, contentAt, bodyAt, headAt, headOf, recordAt, recordOf, saysHead, saysRecord}
 use Rattle.recording.specs.declared.Head.{Head}
 use Rattle.recording.specs.declared.ReadHead.{ReadHead}
 use Rattle.recording.specs.declared.ReadRecord.{ReadRecord}
@@ -23,7 +23,7 @@ use Rattle.recording.proofs.laws.Rowed.{head-stands}
 
 module _ {P : ℕ → Type 0} (s : List ℕ) (closed : Closed P s) where
   head-telling : P 0 → Telling P (headOf s)
-  unfolding headOf bodyAt
+  unfolding headAt bodyAt
   head-telling h =
       telling-after (telling-field s closed 4 number 0 h) λ len a i.
       telling-after (telling-field s closed 2 number a i) λ kind start j.
@@ -46,7 +46,7 @@ module _ {P : ℕ → Type 0} (s : List ℕ) (closed : Closed P s) (h : P 0) whe
   front-end n = let e : 0 + length (take n s) ≡ length (take n s) = omega arith in subst P e (closed 0 (length (take n s)) h (omega (arith, length-take n s)))
 
   record-telling : Telling P (recordOf s)
-  unfolding recordOf after
+  unfolding recordAt after
   record-telling = go (headOf s) (head-telling s closed h) (head-stands s)
     where
       go : (x : Answer Head) → Telling {A = Head} P x → Accepts (λ f n. (f .body .start ≡ 6) × (n ≡ 6 + f .body .count) × (n ≤ length s)) x

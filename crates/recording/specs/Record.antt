@@ -1,4 +1,5 @@
--- One record of a recording: u32 length of the whole record, u16 kind, body. Kinds 1 and 2: a container from the camera, and to it; 3: a note.
+-- One record of a recording: u32 length of the whole record, u16 kind, body. Kinds 1 and 2: a container from the camera, and to it; 3: a note, which
+-- is read and no more written.
 -- Assumes nothing.
 use mathlib.Core.Bool.{Bool, false}
 use mathlib.Core.List.{List, _++_}
@@ -31,6 +32,10 @@ limit = 65000
 unfoldable pub isKind : ℕ → Bool
 isKind kind = pick (leb 1 kind) (leb kind 3) false
 
+-- the kinds that are written
+unfoldable pub isWritten : ℕ → Bool
+isWritten kind = pick (leb 1 kind) (leb kind 2) false
+
 -- a record's length has its six bytes, and its kind is known
 abbrev pub begins : ℕ → ℕ → Bool
 begins len kind = pick (leb 6 len) (isKind kind) false
@@ -43,7 +48,7 @@ contentAt kind s at =
     pick (eqb kind 3) (got content.note (length s))
     (after (containerAt s at) λ x n. pick (eqb n (length s)) (got (content.holds x) n) (refused (bare TRAIL)))
 
--- ── reading, from the front of the bytes ──
+-- ── reading, at a place ──
 
 -- 13: a length below 6, or another kind; 14: a body over the limit; 1: a body that is not whole
 unfoldable pub bodyAt : ℕ → ℕ → Reader Head
@@ -55,17 +60,24 @@ bodyAt len kind s start =
     (refused (bare RECORD))
 
 -- the kind and where the body stands, with the place after it
-unfoldable pub headOf : List ℕ → Answer Head
-headOf s =
-    after (numAt 4 s 0) λ len a.
+unfoldable pub headAt : Reader Head
+headAt s at =
+    after (numAt 4 s at) λ len a.
     after (numAt 2 s a) λ kind start.
     bodyAt len kind s start
 
 -- then what the body refuses
-unfoldable pub recordOf : List ℕ → Answer Record
-recordOf s =
-    after (headOf s) λ h end.
+unfoldable pub recordAt : Reader Record
+recordAt s at =
+    after (headAt s at) λ h end.
     means (λ c. record { kind = h .kind; body = h .body; content = c }) (contentAt (h .kind) (take end s) (h .body .start))
+
+-- at the front of the bytes
+abbrev pub headOf : List ℕ → Answer Head
+headOf s = headAt s 0
+
+abbrev pub recordOf : List ℕ → Answer Record
+recordOf s = recordAt s 0
 
 -- ── writing, by the same rules ──
 
@@ -74,7 +86,7 @@ recordWord kind body = bytes 4 (6 + length body) ++ bytes 2 kind ++ body
 
 unfoldable pub recordSaid : ℕ → List ℕ → Said
 recordSaid kind body =
-    pick (isKind kind)
+    pick (isWritten kind)
     (pick (leb (length body) limit) (saidOf (means (λ _. recordWord kind body) (contentAt kind body 0))) (no (bare LONG)))
     (no (bare RECORD))
 

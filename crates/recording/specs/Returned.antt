@@ -11,11 +11,9 @@ use Rattle.wire.specs.declared.container.Container.{Container}
 use Rattle.recording.specs.Content.{Content, Record}
 use Rattle.recording.specs.Content as content
 
--- what a body holds, by the record's kind: a container has the body's kind, code, number and payload
-pub data Held (body s : List ℕ) : ℕ → Content → Type 0 where
-  a-note : {kind : ℕ} → kind ≡ 3 → Held body s kind content.note
-  a-container : {kind : ℕ} {x : Container} → (kind ≡ 3 → ⊥) → x .kind ≡ kindIn body → x .code ≡ codeIn body → x .number ≡ numberIn body → partOf s (x .payload) ≡ drop 12 body →
-      Held body s kind (content.holds x)
+-- what a body holds: a container that has the body's kind, code, number and payload, and no note
+pub data Held (body s : List ℕ) : Content → Type 0 where
+  a-container : {x : Container} → x .kind ≡ kindIn body → x .code ≡ codeIn body → x .number ≡ numberIn body → partOf s (x .payload) ≡ drop 12 body → Held body s (content.holds x)
 
 -- the record is accepted with that kind, with a body whose bytes are those, and with n as the place after it
 pub record ReturnsRecord (kind : ℕ) (body s : List ℕ) (n : ℕ) (x : Answer Record) : Type 0 where
@@ -23,7 +21,7 @@ pub record ReturnsRecord (kind : ℕ) (body s : List ℕ) (n : ℕ) (x : Answer 
   pub answer : x ≡ got found n
   pub same-kind : found .kind ≡ kind
   pub holds : partOf s (found .body) ≡ body
-  pub held : Held body s kind (found .content)
+  pub held : Held body s (found .content)
 
 -- a record whose body is a container that was written: its container is accepted with that kind, code and number, and with a payload whose bytes are those
 pub record ReturnsContainer (way kind code number : ℕ) (payload s : List ℕ) (n : ℕ) (x : Answer Record) : Type 0 where

@@ -1,11 +1,18 @@
-// Records of a recording, read and written one at a time.
+// Records of a recording, read and written one at a time; and a recording copied without its notes.
 ghost use mathlib.Core.Path.{_≡_};
 ghost use Prim.Native.Nat.{_≤_};
 ghost use lib.ListN.{length};
 ghost use Rattle.layout.specs.Written.{Wrote, says, saysWritten};
-ghost use Rattle.recording.specs.Record.{limit, isKind, contentAt, bodyAt, headOf, recordOf, recordWord, recordSaid, saysReadContent, saysHead, saysRecord};
+ghost use Rattle.recording.specs.Record.{limit, isKind, isWritten, contentAt, bodyAt, headAt, recordAt, recordOf, recordWord, recordSaid, saysReadContent, saysHead, saysRecord};
 ghost use Rattle.recording.specs.Record.{begins as Record·begins};
 ghost use Rattle.recording.specs.Row.{isCut};
+
+mod copy;
+
+pub use copy::Copied;
+pub use copy::Left;
+pub use copy::copy_records;
+pub use copy::whole_records;
 use layout::Refusal;
 use layout::Written;
 use wire::Container;
@@ -61,6 +68,16 @@ fn is_kind(kind: u16) -> bool
     kind <= 3
 }
 
+// The kinds that are written. A note is read, and no more written.
+fn is_written(kind: u16) -> bool
+    ensures { λ r. ⌜ r ≡ isWritten kind ⌝ }
+{
+    if kind < 1 {
+        return false;
+    }
+    kind <= 2
+}
+
 fn begins(len: u32, kind: u16) -> bool
     ensures { λ r. ⌜ r ≡ Record·begins len kind ⌝ }
 {
@@ -112,11 +129,11 @@ fn body_at(len: u32, kind: u16, s: &[u8], start: usize) -> ReadHead
     )
 }
 
-// The head of the record at the front of the bytes, with the place after its body.
-fn read_head(s: &[u8]) -> ReadHead
-    ensures { λ r. ⌜ saysHead r ≡ headOf (now (s .entry)) ⌝ }
+// The head of the record at a place, with the place after its body.
+fn read_head(s: &[u8], at: usize) -> ReadHead
+    ensures { λ r. ⌜ saysHead r ≡ headAt (now (s .entry)) at ⌝ }
 {
-    match (Cursor { at: 0 }).u32(s) {
+    match (Cursor { at }).u32(s) {
         ReadU32::Got(len, a) => match a.u16(s) {
             ReadU16::Got(kind, body) => body_at(len, kind, s, body.at),
             ReadU16::Refused(f) => ReadHead::Refused(f),
@@ -125,11 +142,11 @@ fn read_head(s: &[u8]) -> ReadHead
     }
 }
 
-// The record at the front of the bytes.
-pub fn read_record(s: &[u8]) -> ReadRecord
-    ensures { λ r. ⌜ saysRecord r ≡ recordOf (now (s .entry)) ⌝ }
+// The record at a place. Its parts, and the place of a refusal, count in the bytes that are lent.
+pub fn read_record_at(s: &[u8], c: Cursor) -> ReadRecord
+    ensures { λ r. ⌜ saysRecord r ≡ recordAt (now (s .entry)) (c .at) ⌝ }
 {
-    match read_head(s) {
+    match read_head(s, c.at) {
         ReadHead::Got(head, end) => {
             let kind = head.kind;
             let body = head.body;
@@ -149,11 +166,18 @@ pub fn read_record(s: &[u8]) -> ReadRecord
     }
 }
 
+// The record at the front of the bytes.
+pub fn read_record(s: &[u8]) -> ReadRecord
+    ensures { λ r. ⌜ saysRecord r ≡ recordOf (now (s .entry)) ⌝ }
+{
+    read_record_at(s, Cursor { at: 0 })
+}
+
 // Whether bytes that follow these may change what is found at their front: END is told of its head, and not of what a whole body holds.
 pub fn is_cut(s: &[u8]) -> bool
     ensures { λ r. ⌜ r ≡ isCut (now (s .entry)) ⌝ }
 {
-    match read_head(s) {
+    match read_head(s, 0) {
         ReadHead::Got(_, _) => false,
         ReadHead::Refused(f) => f.no == layout::END,
     }
@@ -176,7 +200,7 @@ fn put_record(kind: u16, body: &[u8], out: &mut [u8]) -> Written
 pub fn write_record(kind: u16, body: &[u8], out: &mut [u8]) -> Written
     ensures { λ r. ⌜ Wrote (recordSaid kind (now (body .entry))) (now (out .entry)) (saysWritten r) (now (out .exit)) ⌝ }
 {
-    if !is_kind(kind) {
+    if !is_written(kind) {
         return Written::Refused(layout::plain(layout::RECORD));
     }
     if body.len() > LIMIT {

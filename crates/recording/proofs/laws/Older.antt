@@ -23,7 +23,7 @@ use Rattle.wire.specs.Container.{headerRest, headerAt, containerAt}
 use Rattle.wire.specs.Container as C
 use Rattle.wire.specs.Refused.{announced, kindIn}
 use Rattle.recording.specs.Content.{Record}
-use Rattle.recording.specs.Record.{limit, begins, contentAt, bodyAt, headOf, recordOf}
+use Rattle.recording.specs.Record.{limit, begins, contentAt, bodyAt, headAt, recordAt, recordOf}
 use Rattle.recording.specs.Row.{followed, found, recordsIn}
 use Rattle.recording.specs.declared.Head.{Head}
 use Rattle.recording.specs.Older.{bodyUpTo, headUpTo, recordUpTo, foundUpTo, recordsUpTo, LongAnnounced, AllRead, one-more, EndsWith, here, after-one}
@@ -31,7 +31,7 @@ use Rattle.recording.specs.Older.{bodyUpTo, headUpTo, recordUpTo, foundU
 -- ── at today's limit they are today's ──
 
 pub record-now : (s : List ℕ) → recordUpTo limit s ≡ recordOf s
-unfolding recordUpTo recordOf headUpTo headOf bodyUpTo bodyAt
+unfolding recordUpTo recordAt headUpTo headAt bodyUpTo bodyAt
 record-now s = refl
 
 found-now : (fuel : ℕ) (s : List ℕ) → foundUpTo limit fuel s ≡ found fuel s

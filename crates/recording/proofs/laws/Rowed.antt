@@ -22,7 +22,7 @@ use Rattle.wire.specs.Tests.{_gives_else_, holds, fails, Otherwise, otherwise}
 use Rattle.wire.proofs.laws.Contained.{Boxed, container-stands, container-small}
 use Rattle.recording.specs.Content.{Content, Record}
 use Rattle.recording.specs.Content as content
-use Rattle.recording.specs.Record.{limit, contentAt, headOf, recordOf}
+use Rattle.recording.specs.Record.{limit, contentAt, headOf, recordAt, recordOf}
 use Rattle.recording.specs.Row.{followed, found, recordsIn, isEnd, isCut}
 use Rattle.recording.specs.declared.Head.{Head}
 use Rattle.recording.proofs.Judged.{HeadSays, head-judged, head-one}
@@ -39,7 +39,7 @@ pub record Stands (s : List ℕ) (x : Record) (n : ℕ) : Type 0 where
 length-take-most : (n : ℕ) (s : List ℕ) → length (take n s) ≤ length s
 length-take-most n s = let e = ap length (take-append-drop n s) in omega (arith, length-append (take n s) (drop n s))
 
-content-ends : (kind : ℕ) (s : List ℕ) (at : ℕ) → Accepts (λ c n. n ≡ length s) (contentAt kind s at)
+pub content-ends : (kind : ℕ) (s : List ℕ) (at : ℕ) → Accepts (λ c n. n ≡ length s) (contentAt kind s at)
 unfolding contentAt
 content-ends kind s at =
     accepts-pick _ (eqb kind 3) _ _ (λ _. refl)
@@ -57,7 +57,7 @@ head-stands s = go (head-judged s)
     go (fails a (fails b (fails c (fails d (fails e otherwise))))) = let six : announced s < 6 → ⊥ = λ h. c (inl h) in (refl, omega arith, omega arith)
 
 pub record-stands : (s : List ℕ) → Accepts (Stands s) (recordOf s)
-unfolding recordOf
+unfolding recordAt
 record-stands s =
     accepts-after _ _ (headOf s) _ (head-stands s) λ h end p.
     accepts-means _ _ _ (contentAt (h .kind) (take end s) (h .body .start)) (content-ends (h .kind) (take end s) (h .body .start)) λ c n e.
@@ -78,7 +78,7 @@ content-small kind s h at =
     accepts-pick _ (eqb n (length s)) _ _ (λ _. (p .0, omega (arith, p .1 .till, p .1 .within))) (λ _. tt))
 
 pub record-small : (s : List ℕ) → Bytes s → Accepts (λ x n. Small s (x .content)) (recordOf s)
-unfolding recordOf
+unfolding recordAt
 record-small s h =
     accepts-after _ _ (headOf s) _ (accepts-any (headOf s)) λ f end p.
     accepts-means _ _ _ (contentAt (f .kind) (take end s) (f .body .start)) (content-small (f .kind) (take end s) (Bytes-take end s h) (f .body .start)) λ c n e. wider end c e
@@ -166,13 +166,13 @@ head-same s t uncut = head-one (s ++ t) (headOf (s ++ t)) (headOf s) (head-judge
     go (fails a (fails b (fails c (fails d (fails f otherwise))))) e =
         fails (longer 4 a) (behind b (fails c (fails d (fails (longer (announced s) f) otherwise))))
 
-after-same : {A B : Type 0} (x : Answer A) (f g : A → ℕ → Answer B) → Accepts (λ a n. f a n ≡ g a n) x → after x f ≡ after x g
+pub after-same : {A B : Type 0} (x : Answer A) (f g : A → ℕ → Answer B) → Accepts (λ a n. f a n ≡ g a n) x → after x f ≡ after x g
 unfolding after
 after-same (got a n) f g e = e
 after-same (refused t) f g e = refl
 
 pub uncut-same : (s t : List ℕ) → isCut s ≡ false → recordOf (s ++ t) ≡ recordOf s
-unfolding recordOf
+unfolding recordAt
 uncut-same s t uncut = rw (head-same s t uncut) (after-same (headOf s) (filled (s ++ t)) (filled s) (accepts-all _ _ (headOf s) (head-stands s) λ h end p. rw (take-append-le end s t (p .2))))
   where
     filled : List ℕ → Head → ℕ → Answer Record
@@ -192,7 +192,7 @@ cut-short s cut = go (head-judged s) cut
     go (fails a (fails b (fails c (fails d (fails f otherwise))))) e = zero-one (cc)
 
 pub whole-uncut : (s : List ℕ) {x : Record} {n : ℕ} → got x n ≡ recordOf s → isCut s ≡ false
-unfolding recordOf isCut after
+unfolding recordAt isCut after
 whole-uncut s {x} {n} e = go (headOf s) e
   where
     go : (y : Answer Head) →

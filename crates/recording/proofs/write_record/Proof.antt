@@ -13,25 +13,25 @@ use Rattle.recording.proofs.write_record.Tie as tie
 returns : tie.Need-returns
 returns c =
     let a = c .before .before .before .before .before .args in
-    rw (c .plain .ensures) (refusal (said-13 (a .kind) (now (a .body)) (sym (c .before .before .is-kind .ensures) ∙ not-true _ (c .before .if1 .taken))))
+    rw (c .plain .ensures) (refusal (said-13 (a .kind) (now (a .body)) (sym (c .before .before .is-written .ensures) ∙ not-true _ (c .before .if1 .taken))))
 
 returns-2 : tie.Need-returns-2
 returns-2 c =
     let a = c .before .before .before .before .before .before .args in
-    rw (c .plain2 .ensures) (refusal (said-14 (a .kind) (now (a .body)) (sym (c .before .before .before .is-kind .ensures) ∙ not-false _ (c .before .before .if1 .left)) (c .before .if2 .taken)))
+    rw (c .plain2 .ensures) (refusal (said-14 (a .kind) (now (a .body)) (sym (c .before .before .before .is-written .ensures) ∙ not-false _ (c .before .before .if1 .left)) (c .before .if2 .taken)))
 
 returns-3 : tie.Need-returns-3
 returns-3 c =
     let k = c .before .before .before .before .before .before .before in
     let a = k .before .before .before .before .before .args in
-    rw (said-bytes (a .kind) (now (a .body)) (sym (k .before .before .is-kind .ensures) ∙ not-false _ (k .before .if1 .left)) (k .if2 .left) (heard saysReadContent (c .before .before .before .before .enum-told .given .1) (c .before .before .before .before .before .before .content-at .ensures)))
+    rw (said-bytes (a .kind) (now (a .body)) (sym (k .before .before .is-written .ensures) ∙ not-false _ (k .before .if1 .left)) (k .if2 .left) (heard saysReadContent (c .before .before .before .before .enum-told .given .1) (c .before .before .before .before .before .before .content-at .ensures)))
     (c .before .before .put-record .ensures)
 
 returns-4 : tie.Need-returns-4
 returns-4 c =
     let k = c .before .before .before .before in
     let a = k .before .before .before .before .before .args in
-    refusal (said-refused (a .kind) (now (a .body)) (sym (k .before .before .is-kind .ensures) ∙ not-false _ (k .before .if1 .left)) (k .if2 .left) (heard saysReadContent (c .before .f .given .1) (c .before .before .before .content-at .ensures)))
+    refusal (said-refused (a .kind) (now (a .body)) (sym (k .before .before .is-written .ensures) ∙ not-false _ (k .before .if1 .left)) (k .if2 .left) (heard saysReadContent (c .before .f .given .1) (c .before .before .before .content-at .ensures)))
 
 pub write-record-spec : {M : Type 1} → statement M
 write-record-spec =
