@@ -7,7 +7,7 @@
 #include <stdlib.h>
 #include <string.h>
 
-enum { LONGEST = 1200000, MOST_PARAMS = 4096, MOST_WORDS = 6 };
+enum { LONGEST = 1200000, MOST_PARAMS = 4096, MOST_WORDS = 7 };
 
 static char line[LONGEST + 2];
 static uint8_t first[LONGEST], second[LONGEST]; /* the bytes of a question's last words */
