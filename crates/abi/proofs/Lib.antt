@@ -1,4 +1,5 @@
 pub mod laws
 pub mod Minus
+pub mod Copying
 pub mod Unique
 pub mod Given

@@ -2,17 +2,20 @@
 -- A word is that of an answer, and the answer that is allowed is one: by the rule of writers, of the walk, of all paths, of commands.
 -- Assumes nothing.
 use mathlib.Core.Path.{_≡_, refl, sym, ap, _∙_}
-use mathlib.Core.List.{List}
+use mathlib.Core.List.{List, _∷_}
 use Prim.Native.Nat.{ℕ}
+use lib.ListN.{drop}
 use Rattle.layout.specs.Answer.{Answer, got, refused, means}
-use Rattle.layout.specs.Written.{Said, saysWritten}
+use Rattle.layout.specs.Written.{Said, leftOf, saysWritten}
 use Rattle.layout.specs.declared.Written.{Written}
 use Rattle.layout.specs.declared.Written.the-variants as written
+use Rattle.recording.specs.Copied.{copySaid}
 use Rattle.session.specs.Transaction.{turn}
 use Rattle.tree.specs.Path.{Walked, AllPaths}
 use Rattle.tree.specs.Table.{Table}
 use Rattle.tree.proofs.laws.Unique.{one-walked, one-paths}
 use Rattle.abi.specs.Answered.{word, Tells, Gives}
+use Rattle.abi.specs.Copied.{unlessRefused, CopiesInto}
 use Rattle.abi.specs.Sent.{sessionAt, numberAfter, Sent}
 
 -- one answer is one word
@@ -54,3 +57,13 @@ one-sent n code said old new new′ n′ n″ r s x y =
     let q = y .allows .makes in
     let same : x .answer ≡ y .answer = p .answers ∙ ap (means (λ _. turn (sessionAt n) code)) (p .wrote .answers ∙ sym (q .wrote .answers)) ∙ sym (q .answers) in
     (same-word x y same, x .allows .number ∙ ap (numberAfter n) same ∙ sym (y .allows .number), p .wrote .leaves ∙ sym (q .wrote .leaves))
+
+pub one-copied-into : (s out left o o′ l l′ : List ℕ) (r r′ : ℕ) → Tells (CopiesInto s out left o l) r → Tells (CopiesInto s out left o′ l′) r′ → (r ≡ r′) × (o ≡ o′) × (l ≡ l′)
+one-copied-into s out left o o′ l l′ r r′ x y =
+    let p = x .allows in
+    let q = y .allows in
+    let same : x .answer ≡ y .answer = p .answers ∙ sym (q .answers) in (
+      same-word x y same,
+      p .leaves ∙ ap (λ a. unlessRefused a (λ _. leftOf (copySaid s) out) out) same ∙ sym (q .leaves),
+      p .counts ∙ ap (λ a. unlessRefused a (λ k. k .records ∷ k .bytes ∷ drop 2 left) left) same ∙ sym (q .counts),
+    )

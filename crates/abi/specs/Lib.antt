@@ -1,3 +1,4 @@
 pub mod Answered
+pub mod Copied
 pub mod Rows
 pub mod Sent

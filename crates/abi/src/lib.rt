@@ -1,6 +1,7 @@
 // What a controller calls from C or Rust: numbers and slices only. ptp.h says the same in C.
 // Each function answers how many numbers or bytes it gave, or minus the number of its refusal. What is right is in specs/.
 mod answer;
+mod copied;
 mod dataset;
 mod object_table;
 mod property;
