@@ -72,9 +72,9 @@ fn go_past(
     }
 }
 
-// Copies the first n bytes that are held.
-fn copy_part(s: Stand, n: usize, window: &mut [u8], out: &mut [u8]) -> Going {
-    match recording::copy_records(slice::part(window, 0, n), out) {
+// Writes the copy of the first n bytes that are held.
+fn copy_part(s: Stand, n: usize, copied: Copied, window: &mut [u8], out: &mut [u8]) -> Going {
+    match copied {
         Copied::Done(count, left) => {
             if !stream::write_all(
                 STDOUT_FILENO,
@@ -115,15 +115,17 @@ fn read_on(s: Stand, window: &mut [u8]) -> Going {
 // held when the input has ended.
 fn one_turn(s: Stand, window: &mut [u8; 65536], out: &mut [u8; 65536]) -> Going {
     let held = s.held;
-    let n = recording::whole_records(slice::part(window, 0, held));
-    if 0 < n {
-        return copy_part(s, n, window, out);
+    let front = recording::copy_front(slice::part(window, 0, held), out);
+    let copied = front.copied;
+    if 0 < front.used {
+        return copy_part(s, front.used, copied, window, out);
     }
     if !s.ended && held < window.len() {
         return read_on(s, window);
     }
     if 0 < held {
-        return copy_part(s, held, window, out);
+        let refused = recording::copy_records(slice::part(window, 0, held), out);
+        return copy_part(s, held, refused, window, out);
     }
     report_left(s);
     Going::Stop

@@ -9,7 +9,7 @@ use native.Mathlib.Omega.{arith}
 use borrow.Author.Tests.{ltb-false}
 use lib.Dec.{leb, ltb}
 use lib.ListN.{length, take, drop, length-append, length-drop, take-append-drop, drop-of-length-le}
-use lib.Seq.{length-take-le, take-take, drop-drop, take-append-le, drop-append-le, drop-append-add}
+use lib.Seq.{length-take-le, take-add, take-take, drop-drop, take-append-le, drop-append-le, drop-append-add}
 use Rattle.layout.specs.Answer.{Told, Answer, got, refused, bare, pick, after, means}
 use Rattle.layout.specs.Bytes.{number}
 use Rattle.layout.specs.Refusals.{ROOM}
@@ -26,11 +26,12 @@ use Rattle.recording.specs.Content as content
 use Rattle.recording.specs.Record.{isWritten, headAt, recordAt, recordOf, recordSaid, saysRecord}
 use Rattle.recording.specs.Refused.{Cut, in-front, in-body}
 use Rattle.recording.specs.Returned.{Held, ReturnsRecord}
-use Rattle.recording.specs.Row.{rowFrom, rowOf, isCut}
-use Rattle.recording.specs.Copied.{bytesIn, keptOf, kept, writtenIn, AllWritten, copySaid, none, counted, leftBy, leftOut, copyOf, Copies, saysCopied, moveTold, move, Alike, no-more, and-one, plus}
+use Rattle.recording.specs.Row.{rowFrom, rowOf, wholeOf, isCut}
+use Rattle.recording.specs.Copied.{bytesIn, keptOf, kept, writtenIn, AllWritten, copySaid, none, counted, leftBy, leftOut, copyOf, Copies, CopiesFront, saysCopied, moveTold, move, Alike, no-more, and-one, plus}
 use Rattle.recording.specs.declared.Head.{Head}
 use Rattle.recording.specs.declared.ReadRecord.{ReadRecord}
 use Rattle.recording.specs.declared.copy.Left.{Left}
+use Rattle.recording.specs.declared.copy.Front.{Front}
 use Rattle.recording.specs.declared.copy.Copied as declared
 use Rattle.recording.specs.declared.copy.Copied.the-variants as copied
 use Rattle.recording.proofs.Judged.{HeadSays, head-judged}
@@ -55,6 +56,12 @@ tells-copied = retracts copied-from copied-back
 
 pub one-copied : (s old new new′ : List ℕ) (x y : declared.Copied) → Copies s old (saysCopied x) new → Copies s old (saysCopied y) new′ → (x ≡ y) × (new ≡ new′)
 one-copied s old new new′ x y p q = (tells-copied x y (p .answers ∙ sym (q .answers)), p .leaves ∙ sym (q .leaves))
+
+pub one-front : (s old new new′ : List ℕ) (x y : Front) → CopiesFront s old x new → CopiesFront s old y new′ → (x ≡ y) × (new ≡ new′)
+one-front s old new new′ x y p q =
+    let same = p .used ∙ sym (q .used) in
+    let both = one-copied (take (wholeOf s) s) old new new′ (x .copied) (y .copied) (p .copies) (q .copies) in
+    (rw (same, both .0), both .1)
 
 -- ── what was done, where it was ──
 
@@ -230,6 +237,14 @@ body-same s w at c h =
     ∙ take-take c c (drop 6 (drop at s)) (omega arith)
     ∙ ap (take c) (drop-drop 6 at s))
 
+-- the row of it alone
+alone-row : (s : List ℕ) (at : ℕ) {x : Record} → (a : Alone s at x) → rowOf (bytesIn s x) ≡ got (a .moved ∷ []) (length (bytesIn s x))
+unfolding means rowOf
+alone-row s at {x} a =
+    let b = bytesIn s x in
+    let q = accepted (Placed b 0) (record-placed b 0) (sym (a .read)) in
+    row-got b 0 (omega (arith, q .till)) (sym (a .read)) ∙ ap (means (λ zs. a .moved ∷ zs)) (row-none b (length b) (omega arith))
+
 -- one record more in front
 reread-one : (s : List ℕ) (at : ℕ) {x : Record} {n : ℕ} → got x n ≡ recordAt s at → (w : List ℕ) (xs : List Record) → Reread s w xs → Reread s (bytesIn s x ++ w) (x ∷ xs)
 unfolding means rowOf
@@ -239,8 +254,7 @@ reread-one s at {x} {n} e w xs r =
     let b = bytesIn s x in
     let p = accepted (Placed s at) (record-placed s at) e in
     let q = accepted (Placed b 0) (record-placed b 0) (sym (a .read)) in
-    let one : rowOf b ≡ got (y ∷ []) (length b) = row-got b 0 (omega (arith, q .till)) (sym (a .read)) ∙ ap (means (λ zs. y ∷ zs)) (row-none b (length b) (omega arith)) in
-    let both = rows-join b w (sym one) ∙ ap (λ z. means (λ zs. (y ∷ []) ++ zs) (shifted (map (move (length b))) (length b) z)) (r .read) in
+    let both = rows-join b w (sym (alone-row s at a)) ∙ ap (λ z. means (λ zs. (y ∷ []) ++ zs) (shifted (map (move (length b))) (length b) z)) (r .read) in
     let starts : x .body .start - 6 ≡ at = omega (arith, p .start) in
     let room : 6 + x .body .count ≤ length (drop at s) = omega (arith, p .till, p .within, length-drop at s) in
     let counts : x .body .count ≡ y .body .count = ap (λ z. z .body .count) (a .back) in
@@ -383,6 +397,47 @@ unfolding leftBy
 left-both a l [] [] = refl
 left-both a l [] (y ∷ ys) = left-both a (counted l (y .kind) (y .body .count)) [] ys
 left-both a l (x ∷ xs) ys = left-both a (counted l (x .kind) (x .body .count)) xs ys
+
+-- the records at the front, and one more
+pub front-more : (s : List ℕ) (at : ℕ) (l : Left) {x : Record} {n : ℕ} → leftOut (take at s) ≡ got l at → got x n ≡ recordAt s at → leftOut (take n s) ≡ got (counted l (x .kind) (x .body .count)) n
+unfolding leftOut leftBy means
+front-more s at l {x} {n} front e = go (rowOf a) refl front
+  where
+    p : Placed s at x n
+    p = accepted (Placed s at) (record-placed s at) e
+
+    a : List ℕ
+    a = take at s
+
+    long : length a ≡ at
+    long = length-take-le at s (omega (arith, p .till, p .within))
+
+    b : List ℕ
+    b = bytesIn s x
+
+    size : length b ≡ 6 + x .body .count
+    size = length-take-le (6 + x .body .count) (drop (x .body .start - 6) s) (omega (arith, length-drop (x .body .start - 6) s, p .start, p .till, p .within))
+
+    split : take n s ≡ a ++ b
+    split =
+        let starts : x .body .start - 6 ≡ at = omega (arith, p .start) in
+        let till : n ≡ at + (6 + x .body .count) = omega (arith, p .till) in
+        ap (λ m. take m s) till ∙ take-add at (6 + x .body .count) s ∙ ap (λ i. a ++ take (6 + x .body .count) (drop i s)) (sym starts)
+
+    own : Alone s at x
+    own = alone s at e
+
+    go : (y : Answer (List Record)) → rowOf a ≡ y → means (leftBy none) y ≡ got l at → means (leftBy none) (rowOf (take n s)) ≡ got (counted l (x .kind) (x .body .count)) n
+    go (got xs m) f g =
+        let z = own .moved in
+        let is : leftBy none xs ≡ l = cc in
+        let end : length a + length b ≡ n = omega (arith, long, size, p .till) in
+        let same : counted l (z .kind) (z .body .count) ≡ counted l (x .kind) (x .body .count) = ap (λ r. counted l (r .kind) (r .body .count)) (sym (own .back)) in
+        ap (λ v. means (leftBy none) (rowOf v)) split
+        ∙ ap (means (leftBy none)) (rows-join a b (sym f) ∙ ap (λ r. means (λ zs. xs ++ zs) (shifted (map (move (length a))) (length a) r)) (alone-row s at own))
+        ∙ ap (λ k. got k (length a + length b)) (left-both (length a) none xs (z ∷ []) ∙ ap (λ k. counted k (z .kind) (z .body .count)) is ∙ same)
+        ∙ ap (got (counted l (x .kind) (x .body .count))) end
+    go (refused t) f g = zero-one (cc)
 
 -- of a recording cut between two records, the copies of the parts end to end are its copy, and the counts add up
 pub copied-parts : (a b v w : List ℕ) (l k : Left) (n m : ℕ) → copySaid a ≡ says v → leftOut a ≡ got l n → copySaid b ≡ says w → leftOut b ≡ got k m →

@@ -299,6 +299,11 @@ row-ends (suc f) s at h k =
     (λ _. accepts-after (Placed s at) _ (recordAt s at) _ (record-placed s at) λ x n p. accepts-means _ _ _ (rowFrom f s n) (row-ends f s n (p .within) (omega (arith, p .till))) λ xs m q. q)
     (λ e. let k : length s ≤ at = ltb-false at (length s) e in omega arith)
 
+-- so where it is accepted, that is where it ends
+pub left-ends : (s : List ℕ) → Accepts (λ _ n. n ≡ length s) (leftOut s)
+unfolding leftOut rowOf
+left-ends s = accepts-means _ _ _ (rest s 0) (row-ends (length s) s 0 (omega arith) (omega arith)) λ _ _ e. e
+
 -- of the whole recording: what is left out, and what is copied, make its length
 pub copied-adds : (s : List ℕ) → Accepts (λ l n. (l .bytes + length (spelling (kept s)) ≡ length s) × (took (kept s) ≡ true)) (leftOut s)
 unfolding leftOut kept rowOf means Sums

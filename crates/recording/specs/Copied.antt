@@ -12,10 +12,12 @@ use Rattle.wire.specs.declared.container.Container.{Container}
 use Rattle.recording.specs.Content.{Content, Record}
 use Rattle.recording.specs.Content as content
 use Rattle.recording.specs.Record.{isWritten}
-use Rattle.recording.specs.Row.{rowOf}
+use Rattle.recording.specs.Row.{rowOf, wholeOf}
 use Rattle.recording.specs.declared.copy.Left.{Left}
-use Rattle.recording.specs.declared.copy.Need.{Need}
-use Rattle.recording.specs.declared.copy.Need.the-variants as need
+use Rattle.recording.specs.declared.copy.Front.{Front}
+use Rattle.recording.specs.declared.copy.Stop.{Stop}
+use Rattle.recording.specs.declared.copy.Stop.the-variants as stop
+use Rattle.recording.specs.declared.copy.Swept.{Swept}
 use Rattle.recording.specs.declared.copy.Copied.{Copied}
 use Rattle.recording.specs.declared.copy.Copied.the-variants as copied
 
@@ -75,13 +77,26 @@ pub record Copies (s old : List ℕ) (answer : Answer Left) (new : List ℕ) : T
 
 -- ── this paper's values for each case ──
 
-abbrev pub saysNeed : Need → Answer Left
-saysNeed (need.Got l c) = got l (c .at)
-saysNeed (need.Refused t) = refused t
+abbrev pub saysStop : Left → ℕ → Stop → Answer Left
+saysStop l n stop.End = got l n
+saysStop l n (stop.Refused t) = refused t
 
 abbrev pub saysCopied : Copied → Answer Left
 saysCopied (copied.Done n l) = got l n
 saysCopied (copied.Refused t) = refused t
+
+-- ── the records at the front that are accepted ──
+
+-- what a copy leaves out of them, and of all bytes
+pub record Sweeps (s : List ℕ) (r : Swept) : Type 0 where
+  pub end : r .end ≡ wholeOf s
+  pub front : leftOut (take (wholeOf s) s) ≡ got (r .left) (wholeOf s)
+  pub whole : saysStop (r .left) (r .end) (r .stop) ≡ leftOut s
+
+-- they are copied as a recording
+pub record CopiesFront (s old : List ℕ) (r : Front) (new : List ℕ) : Type 0 where
+  pub used : r .used ≡ wholeOf s
+  pub copies : Copies (take (wholeOf s) s) old (saysCopied (r .copied)) new
 
 -- ── places moved by so many bytes, and records that are alike ──
 

@@ -4,11 +4,11 @@ ghost use mathlib.Core.Bool.{true};
 ghost use mathlib.Core.List.{[]};
 ghost use Prim.Native.Nat.{_+_, _^_, _≤_, _<_};
 ghost use lib.ListN.{length, take, drop};
-ghost use Rattle.layout.specs.Answer.{pick};
+ghost use Rattle.layout.specs.Answer.{got, pick};
 ghost use Rattle.layout.specs.Written.{Put, took, spelling, roomed};
 ghost use Rattle.recording.specs.Record.{isWritten};
 ghost use Rattle.recording.specs.Row.{wholeOf};
-ghost use Rattle.recording.specs.Copied.{kept, counted, leftOut, Copies, saysNeed, saysCopied};
+ghost use Rattle.recording.specs.Copied.{kept, counted, leftOut, Sweeps, Copies, CopiesFront, saysCopied};
 use crate::ReadHead;
 use crate::ReadRecord;
 use layout::Refusal;
@@ -20,10 +20,17 @@ pub struct Left {
     pub bytes: usize,
 }
 
-// What was left out of a recording, with the place after its last record; or its first refusal.
-enum Need {
-    Got(Left, Cursor),
+// Why a sweep ended: with the bytes, or at a record that is refused.
+enum Stop {
+    End,
     Refused(Refusal),
+}
+
+// The records at the front that are accepted: where they end, and what a copy leaves out of them; and why there are no more.
+struct Swept {
+    end: usize,
+    left: Left,
+    stop: Stop,
 }
 
 // How many bytes were written, and what was left out; or why nothing was written.
@@ -32,22 +39,10 @@ pub enum Copied {
     Refused(Refusal),
 }
 
-// How many bytes at the front are whole records that are accepted.
-pub fn whole_records(s: &[u8]) -> usize
-    ensures { λ r. ⌜ r ≡ wholeOf (now (s .entry)) ⌝ }
-{
-    let mut at = 0;
-    while at < s.len() {
-        match crate::read_record_at(s, Cursor { at }) {
-            ReadRecord::Got(_, next) => {
-                at = next.at;
-            }
-            ReadRecord::Refused(_) => {
-                return at;
-            }
-        }
-    }
-    at
+// The whole records at the front, so many bytes, and what became of their copy.
+pub struct Front {
+    pub used: usize,
+    pub copied: Copied,
 }
 
 // One record more.
@@ -64,8 +59,8 @@ fn count(left: Left, kind: u16, body: usize) -> Left
     }
 }
 
-fn copy_need(s: &[u8]) -> Need
-    ensures { λ r. ⌜ saysNeed r ≡ leftOut (now (s .entry)) ⌝ }
+fn sweep(s: &[u8]) -> Swept
+    ensures { λ r. ⌜ Sweeps (now (s .entry)) r ⌝ }
 {
     let mut at = 0;
     let mut left = Left {
@@ -79,11 +74,26 @@ fn copy_need(s: &[u8]) -> Need
                 at = next.at;
             }
             ReadRecord::Refused(f) => {
-                return Need::Refused(f);
+                return Swept {
+                    end: at,
+                    left,
+                    stop: Stop::Refused(f),
+                };
             }
         }
     }
-    Need::Got(left, Cursor { at })
+    Swept {
+        end: at,
+        left,
+        stop: Stop::End,
+    }
+}
+
+// How many bytes at the front are whole records that are accepted.
+pub fn whole_records(s: &[u8]) -> usize
+    ensures { λ r. ⌜ r ≡ wholeOf (now (s .entry)) ⌝ }
+{
+    sweep(s).end
 }
 
 // The whole record at a place, unless it is a note.
@@ -116,19 +126,39 @@ fn put_copied(s: &[u8], out: &mut [u8]) -> usize
     o
 }
 
+// Of records that are all accepted, of which so much is left out.
+fn copy_swept(s: &[u8], left: Left, out: &mut [u8]) -> Copied
+    requires { ⌜ leftOut (now s) ≡ got left (length (now s)) ⌝ }
+    ensures { λ r. ⌜ Copies (now (s .entry)) (now (out .entry)) (saysCopied r) (now (out .exit)) ⌝ }
+{
+    let need = s.len() - left.bytes;
+    if out.len() < need {
+        return Copied::Refused(layout::plain(layout::ROOM));
+    }
+    let n = put_copied(s, out);
+    Copied::Done(n, left)
+}
+
 // Copies the recording to the front of the part lent to it.
 pub fn copy_records(s: &[u8], out: &mut [u8]) -> Copied
     ensures { λ r. ⌜ Copies (now (s .entry)) (now (out .entry)) (saysCopied r) (now (out .exit)) ⌝ }
 {
-    match copy_need(s) {
-        Need::Got(left, _) => {
-            let need = s.len() - left.bytes;
-            if out.len() < need {
-                return Copied::Refused(layout::plain(layout::ROOM));
-            }
-            let n = put_copied(s, out);
-            Copied::Done(n, left)
-        }
-        Need::Refused(f) => Copied::Refused(f),
+    let swept = sweep(s);
+    let left = swept.left;
+    let stop = swept.stop;
+    match stop {
+        Stop::End => copy_swept(s, left, out),
+        Stop::Refused(f) => Copied::Refused(f),
     }
+}
+
+// Copies the whole records at the front that are accepted, whatever follows them.
+pub fn copy_front(s: &[u8], out: &mut [u8]) -> Front
+    ensures { λ r. ⌜ CopiesFront (now (s .entry)) (now (out .entry)) r (now (out .exit)) ⌝ }
+{
+    let swept = sweep(s);
+    let left = swept.left;
+    let used = swept.end;
+    let copied = copy_swept(&s[..used], left, out);
+    Front { used, copied }
 }

@@ -10,7 +10,9 @@ ghost use Rattle.recording.specs.Row.{isCut};
 mod copy;
 
 pub use copy::Copied;
+pub use copy::Front;
 pub use copy::Left;
+pub use copy::copy_front;
 pub use copy::copy_records;
 pub use copy::whole_records;
 use layout::Refusal;
