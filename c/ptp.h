@@ -1,4 +1,4 @@
-/* The byte layer of the picture transfer protocol: thirteen proved functions, in C.
+/* The byte layer of the picture transfer protocol: fourteen proved functions, in C.
  *
  * Each function answers how many numbers or bytes it gave, 0 or more; or a refusal, below 0: minus (its number, 1 to 16, and 256 times its
  * place), which ptp_refusal_number and ptp_refusal_place take apart. The place is that of the first byte of the field that failed, for
@@ -276,6 +276,12 @@ enum ptp_record_number {
 /* The record that begins the bytes. Refusals: END for six bytes, RECORD, LONG, END for the body; of its container END, KIND, END, LENGTH,
  * SIZE, TRAIL; ROOM. */
 int64_t ptp_read_record(const uint8_t *s, size_t s_len, uint64_t *out, size_t out_len);
+
+enum ptp_left_number { PTP_LEFT_RECORDS, PTP_LEFT_BYTES, PTP_LEFT_NUMBERS /* 2 */ };
+
+/* A whole recording without its notes: the bytes written, and in `left` how many records and bytes, headers included, were left out.
+ * Refusals: those of its first refused record, END by its place in s; ROOM for either output. A refused copy writes to neither. */
+int64_t ptp_copy_recording(const uint8_t *s, size_t s_len, uint8_t *out, size_t out_len, uint64_t *left, size_t left_len);
 
 #ifdef __cplusplus
 }

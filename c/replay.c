@@ -255,6 +255,13 @@ static void newer(bool book, const uint8_t *s, size_t len, const uint8_t *payloa
 }
 
 /* The number sent is that of the bytes; a refusal that does not leave the session's state is told as no refusal is. */
+static void print_output(const uint8_t *out, size_t room)
+{
+    printf(room ? " " : " -");
+    for (size_t i = 0; i < room; i++)
+        printf("%02x", out[i]);
+}
+
 static void print_made(int64_t answer, uint32_t state, uint32_t number, const uint8_t *out, size_t room)
 {
     if (answer < 0) {
@@ -265,9 +272,7 @@ static void print_made(int64_t answer, uint32_t state, uint32_t number, const ui
         print_number(number);
         print_number((uint64_t)answer);
     }
-    printf(room ? " " : " -");
-    for (size_t i = 0; i < room; i++)
-        printf("%02x", out[i]);
+    print_output(out, room);
 }
 
 static void command(uint32_t state, const char *code, const char *params_word, const char *data_word, const char *room_word)
@@ -322,6 +327,23 @@ static void record(const uint8_t *s, size_t len)
     print_number(x[PTP_RECORD_TAKEN]);
 }
 
+static void copy(const uint8_t *s, size_t len, const char *room_word)
+{
+    uint64_t left[PTP_LEFT_NUMBERS];
+    size_t room = number_of(room_word);
+    memset(second, 0xA5, room);
+    int64_t count = ptp_copy_recording(s, len, second, room, left, PTP_LEFT_NUMBERS);
+    if (count < 0)
+        print_refusal("no", count, 0);
+    else
+        printf("ok %" PRId64, count);
+    print_output(second, room);
+    if (count >= 0) {
+        print_number(left[PTP_LEFT_RECORDS]);
+        print_number(left[PTP_LEFT_BYTES]);
+    }
+}
+
 /* A container is asked for as the body of a record. That refuses bytes after it, of which the question says nothing: then the body is cut to
  * the container's own length. */
 static void container(const uint8_t *s, size_t len, uint8_t *lent)
@@ -373,6 +395,8 @@ static void ask(char *const *word)
         answer(second, read_bytes(word[2], second), number_of(word[1]));
     else if (strcmp(kind, "record") == 0)
         record(first, len);
+    else if (strcmp(kind, "copy") == 0)
+        copy(first, len, word[2]);
     else if (strcmp(kind, "container") == 0)
         container(first, len, second);
 }

@@ -23,6 +23,7 @@ extern "C" {
     fn ptp_storage_info(s: *const u8, s_len: usize, out: *mut u64, out_len: usize) -> i64;
     fn ptp_prop_info(book: bool, s: *const u8, s_len: usize, out: *mut u64, out_len: usize) -> i64;
     fn ptp_read_record(s: *const u8, s_len: usize, out: *mut u64, out_len: usize) -> i64;
+    fn ptp_copy_recording(s: *const u8, s_len: usize, out: *mut u8, out_len: usize, left: *mut u64, left_len: usize) -> i64;
     fn ptp_list_value(book: bool, s: *const u8, s_len: usize, n: usize, out: *mut u64, out_len: usize) -> i64;
     fn ptp_newer_value(
         book: bool,
@@ -131,6 +132,13 @@ unsafe extern "C" fn book_prop_info(s: *const u8, s_len: usize, out: *mut u64, o
 
 pub(crate) fn read_record(s: &[u8]) -> Result<[u64; 9], Refusal> {
     read(ptp_read_record, s)
+}
+
+/// The bytes written; then the records and the bytes that were left out.
+pub(crate) fn copy_recording(s: &[u8], out: &mut [u8]) -> Result<[usize; 3], Refusal> {
+    let mut left = [0; 2];
+    let count = told(unsafe { ptp_copy_recording(s.as_ptr(), s.len(), out.as_mut_ptr(), out.len(), left.as_mut_ptr(), left.len()) })?;
+    Ok([count, left[0] as usize, left[1] as usize])
 }
 
 pub(crate) fn list_value(book: bool, s: &[u8], n: usize) -> Result<[u64; 3], Refusal> {
@@ -269,6 +277,24 @@ mod tests {
         try_rooms(crate_prop_info, &[0; 64], 16);
         try_rooms(book_prop_info, &[0; 64], 16);
         try_rooms(ptp_read_record, &[6, 0, 0, 0, 3, 0], 9);
+    }
+
+    // A note and an empty Response: room for the copy and not for the two numbers, and the other way round.
+    #[test]
+    fn a_copy_needs_both_its_outputs() {
+        let s = [7, 0, 0, 0, 3, 0, 65, 18, 0, 0, 0, 1, 0, 12, 0, 0, 0, 3, 0, 1, 32, 0, 0, 0, 0];
+        let copied = |s: &[u8], room: usize, numbers: usize| {
+            let (mut out, mut left) = ([0xA5; 20], [KEPT; 3]);
+            let (lent, numbered) = (&mut out[..room], &mut left[..numbers]);
+            let answer = unsafe { ptp_copy_recording(s.as_ptr(), s.len(), lent.as_mut_ptr(), room, numbered.as_mut_ptr(), numbers) };
+            (told(answer), out, left)
+        };
+        for (room, numbers) in [(18, 0), (18, 1), (17, 2), (0, 0)] {
+            assert_eq!(copied(&s, room, numbers), (Err(Refusal::ROOM), [0xA5; 20], [KEPT; 3]));
+        }
+        assert_eq!(copied(&s[..24], 18, 0), (Err(Refusal::END { at: 13 }), [0xA5; 20], [KEPT; 3]));
+        let (answer, out, left) = copied(&s, 20, 3);
+        assert_eq!((answer, &out[..18], &out[18..], left), (Ok(18), &s[7..], &[0xA5; 2][..], [1, 7, KEPT]));
     }
 
     #[test]

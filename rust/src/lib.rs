@@ -24,7 +24,7 @@ mod value;
 pub use array::{Items, PtpArray, PtpItem};
 pub use dataset::{PtpDeviceInfo, PtpObjectInfo, PtpStorageInfo};
 pub use property::{newer_value, tidy_property, Newer, PropLayout, PtpFormData, PtpPropInfo, PtpValues, Values};
-pub use record::{read_record, PtpContainer, PtpContainerType, PtpRecord, RecordKind};
+pub use record::{copy_recording, read_record, Copied, PtpContainer, PtpContainerType, PtpRecord, RecordKind};
 pub use refusal::Refusal;
 pub use session::{find_answer, Answer, Made, Session, StandardCommandCode, StandardResponseCode};
 pub use text::PtpString;

@@ -1,4 +1,4 @@
-//! A record of a recording.
+//! A record of a recording, and a recording copied without its notes.
 use crate::archive;
 use crate::dataset::Row;
 use crate::refusal::Refusal;
@@ -66,4 +66,19 @@ pub fn read_record(s: &[u8]) -> Result<(PtpRecord<'_>, usize), Refusal> {
         payload: row.part(),
     });
     Ok((PtpRecord { kind, body, container }, taken))
+}
+
+/// A recording without its notes, and how many records and bytes, headers included, were left out.
+#[derive(Clone, Copy, Debug, PartialEq, Eq)]
+pub struct Copied<'a> {
+    pub bytes: &'a [u8],
+    pub left_records: usize,
+    pub left_bytes: usize,
+}
+
+/// Copies the records of kinds 1 and 2 of a whole recording, byte for byte and in order, to the front of `out`. Refusals: those of the
+/// first refused record, an END told by its place in `s`; then ROOM. A refused copy writes nothing.
+pub fn copy_recording<'a>(s: &[u8], out: &'a mut [u8]) -> Result<Copied<'a>, Refusal> {
+    let [count, left_records, left_bytes] = archive::copy_recording(s, out)?;
+    Ok(Copied { bytes: &out[..count], left_records, left_bytes })
 }

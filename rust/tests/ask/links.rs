@@ -1,6 +1,6 @@
 //! Commands, answers, object tables and records.
 use super::{datasets, show, words};
-use ptp_proved::{find_answer, read_record, Answer, Made, ObjectTable, PtpRecord, Refusal, Session};
+use ptp_proved::{copy_recording, find_answer, read_record, Answer, Made, ObjectTable, PtpRecord, Refusal, Session};
 
 // The session that was asked, at its state before; and what it made: the number sent, and how many bytes.
 fn made(state: u32, session: Session, made: Result<(u32, usize), Refusal>, out: &[u8]) -> String {
@@ -167,6 +167,16 @@ pub fn record(s: &str) -> Option<String> {
     Some(match read_record(&s) {
         Ok((record, next)) => record_line(&s, record, next),
         Err(why) => show::refusal(why),
+    })
+}
+
+pub fn copy(s: &str, room: &str) -> Option<String> {
+    let s = words::bytes(s)?;
+    let mut out = words::room(room)?;
+    let answer = copy_recording(&s, &mut out).map(|copied| (copied.bytes.len(), copied.left_records, copied.left_bytes));
+    Some(match answer {
+        Ok((count, records, bytes)) => format!("ok {count} {} {records} {bytes}", show::bytes(&out)),
+        Err(why) => format!("{} {}", show::refusal(why), show::bytes(&out)),
     })
 }
 

@@ -5,7 +5,7 @@ mod show;
 mod words;
 
 /// Every kind that is compared.
-pub const KINDS: [&str; 18] = [
+pub const KINDS: [&str; 19] = [
     "device",
     "object",
     "storage",
@@ -23,6 +23,7 @@ pub const KINDS: [&str; 18] = [
     "path",
     "paths",
     "record",
+    "copy",
     "container",
 ];
 
@@ -46,6 +47,7 @@ pub fn answer(kind: &str, words: &[&str]) -> Option<String> {
         ("path", [handles, parents, ends, names, place, room]) => links::path([handles, parents, ends, names], place, room),
         ("paths", [handles, parents, ends, names, room]) => links::paths([handles, parents, ends, names], room),
         ("record", [s]) => links::record(s),
+        ("copy", [s, room]) => links::copy(s, room),
         ("container", [s]) => links::container(s),
         _ => None,
     }
