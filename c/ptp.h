@@ -1,6 +1,6 @@
-/* The byte layer of the picture transfer protocol: fourteen proved functions, in C.
+/* The byte layer of the picture transfer protocol: eighteen proved functions, in C.
  *
- * Each function answers how many numbers or bytes it gave, 0 or more; or a refusal, below 0: minus (its number, 1 to 16, and 256 times its
+ * Each function answers how many numbers or bytes it gave, 0 or more; or a refusal, below 0: minus (its number, 1 to 18, and 256 times its
  * place), which ptp_refusal_number and ptp_refusal_place take apart. The place is that of the first byte of the field that failed, for
  * END and TEXT: an array's count, a string's count byte, a list's failing value. It counts in the bytes that were lent, of an object's
  * name in that name, and is exact in arrays below 2^55 bytes. Every other refusal has the place 0.
@@ -30,22 +30,24 @@ extern "C" {
 #endif
 
 enum ptp_refusal {
-    PTP_END = 1,     /* the input stops before a field is whole */
-    PTP_TEXT = 2,    /* a string's units hold an unpaired surrogate */
-    PTP_TRAIL = 3,   /* bytes follow what must fill its place */
-    PTP_KIND = 4,    /* a container's kind is not 1 to 4 */
-    PTP_LENGTH = 5,  /* a container's length is below 12 */
-    PTP_SIZE = 6,    /* a container's bytes stop before its announced length */
-    PTP_TID = 7,     /* a container carries another transaction number */
-    PTP_NOPHASE = 8, /* the containers stop, and no Response was seen */
-    PTP_ROOM = 9,    /* the output is shorter than the exact need */
-    PTP_COUNT = 10,  /* too many parameters, or a payload that is too long */
-    PTP_TABLE = 11,  /* the object table breaks its rule */
-    PTP_PLACE = 12,  /* an index that does not exist */
-    PTP_RECORD = 13, /* a record's length is below 6, or its kind not 1 to 3 */
-    PTP_LONG = 14,   /* a record's body is over 65,000 bytes */
-    PTP_TYPE = 15,   /* another type than the description's, one that is none, or a range of anything but integers of 8 to 64 bits */
-    PTP_VALUE = 16   /* the description's form does not allow the value */
+    PTP_END = 1,      /* the input stops before a field is whole */
+    PTP_TEXT = 2,     /* a string's units hold an unpaired surrogate */
+    PTP_TRAIL = 3,    /* bytes follow what must fill its place */
+    PTP_KIND = 4,     /* a container's kind is not 1 to 4 */
+    PTP_LENGTH = 5,   /* a container's length is below 12 */
+    PTP_SIZE = 6,     /* a container's bytes stop before its announced length */
+    PTP_TID = 7,      /* a container carries another transaction number */
+    PTP_NOPHASE = 8,  /* the containers stop, and no Response was seen */
+    PTP_ROOM = 9,     /* the output is shorter than the exact need */
+    PTP_COUNT = 10,   /* too many parameters, or a payload that is too long */
+    PTP_TABLE = 11,   /* the object table breaks its rule */
+    PTP_PLACE = 12,   /* an index that does not exist */
+    PTP_RECORD = 13,  /* a record's length is below 6, or its kind not 1 to 3; a setting's length is below 6, it is untidy, or its key stood before */
+    PTP_LONG = 14,    /* a record's body is over 65,000 bytes */
+    PTP_TYPE = 15,    /* another type than the description's, one that is none, or a range of anything but integers of 8 to 64 bits */
+    PTP_VALUE = 16,   /* the description's form does not allow the value */
+    PTP_EDITION = 17, /* a setting's kind is not one of the edition */
+    PTP_FULL = 18     /* 256 settings with other keys are held */
 };
 
 /* Of an answer below 0: which refusal it is, one of the numbers above. */
@@ -248,6 +250,56 @@ int64_t ptp_walk(const uint32_t *handles, size_t handles_len, const uint16_t *pa
 int64_t ptp_paths(const uint32_t *handles, size_t handles_len, const uint16_t *parents, size_t parents_len, const uint32_t *ends,
                   size_t ends_len, const uint8_t *names, size_t names_len, uint8_t *out, size_t out_len, uint32_t *out_ends,
                   size_t out_ends_len);
+
+/* ---- settings: a row of entries, a property's value each, for a camera of one serial or for any ----
+ *
+ * An entry, all numbers with the low byte first: its length in 4 bytes, these included, its kind in 2; the vendor extension in 4, the
+ * property in 2, in kind 17 the camera's serial, a tidy string; the type in 2, and a tidy value. `second` names the edition: false is the
+ * first, which knows kind 16 alone, true the second, which knows both. */
+
+/* What PTP_ENTRY_KIND and PTP_KEPT_KIND say. */
+enum ptp_entry_kind {
+    PTP_FOR_ANY = 16, /* for any camera: the serial has no units */
+    PTP_FOR_ONE = 17  /* for the camera of this serial */
+};
+
+/* How many entries the row has; no bytes are a row of none. Refusals, entry by entry: END for six bytes, EDITION, RECORD for a length below 6,
+ * END for the rest; END and TEXT of the fields in their order; TRAIL; RECORD for an untidy string, and for a key that stood before; FULL. */
+int64_t ptp_settings_check(bool second, const uint8_t *row, size_t row_len);
+
+enum ptp_entry_number {
+    PTP_ENTRY_NEXT, /* the place after it */
+    PTP_ENTRY_KIND,
+    PTP_ENTRY_VENDOR,
+    PTP_ENTRY_PROPERTY,
+    PTP_ENTRY_SERIAL_START,
+    PTP_ENTRY_SERIAL_COUNT,
+    PTP_ENTRY_TYPE,
+    PTP_ENTRY_VALUE_START,
+    PTP_ENTRY_VALUE_LENGTH,
+    PTP_ENTRY_NUMBERS /* 9 */
+};
+
+/* The entry that starts at a place. Refusals: those of one entry, in the same order; ROOM. */
+int64_t ptp_settings_entry(bool second, const uint8_t *s, size_t s_len, size_t at, uint64_t *out, size_t out_len);
+
+enum ptp_kept_number {
+    PTP_KEPT_KIND,
+    PTP_KEPT_TYPE,
+    PTP_KEPT_VALUE_START,
+    PTP_KEPT_VALUE_LENGTH,
+    PTP_KEPT_NUMBERS /* 4 */
+};
+
+/* What is kept of a property: in the second edition for the camera of this serial, by its units, where there is such an entry, else for any.
+ * Answers 0 where nothing is kept. Refusals: those of the row; ROOM. */
+int64_t ptp_settings_find(bool second, const uint8_t *row, size_t row_len, uint32_t vendor, uint16_t property, const uint16_t *serial,
+                          size_t serial_len, uint64_t *out, size_t out_len);
+
+/* The row with the entry in place of the one that has its key, or last. Answers how many bytes. Refusals: those of the row; those of the
+ * entry, TRAIL also where bytes follow it; FULL where 256 others are held; ROOM. */
+int64_t ptp_settings_store(bool second, const uint8_t *row, size_t row_len, const uint8_t *entry, size_t entry_len, uint8_t *out,
+                           size_t out_len);
 
 /* ---- a recording ---- */
 

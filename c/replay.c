@@ -73,6 +73,14 @@ static void print_number(uint64_t number)
     printf(" %" PRIu64, number);
 }
 
+/* A space and the bytes. */
+static void print_bytes(const uint8_t *s, size_t len)
+{
+    fputs(len ? " " : " -", stdout);
+    for (size_t i = 0; i < len; i++)
+        printf("%02x", s[i]);
+}
+
 static void print_units(const uint8_t *s, uint64_t start, uint64_t count)
 {
     printf("s<");
@@ -249,19 +257,10 @@ static void newer(bool book, const uint8_t *s, size_t len, const uint8_t *payloa
     printf("ok %s", x[PTP_NEWER_OF_PAYLOAD] ? "payload" : "description");
     print_number(x[PTP_NEWER_START]);
     print_number(x[PTP_NEWER_LENGTH]);
-    fputs(x[PTP_NEWER_LENGTH] ? " " : " -", stdout);
-    for (uint64_t i = 0; i < x[PTP_NEWER_LENGTH]; i++)
-        printf("%02x", part[i]);
+    print_bytes(part, x[PTP_NEWER_LENGTH]);
 }
 
 /* The number sent is that of the bytes; a refusal that does not leave the session's state is told as no refusal is. */
-static void print_output(const uint8_t *out, size_t room)
-{
-    printf(room ? " " : " -");
-    for (size_t i = 0; i < room; i++)
-        printf("%02x", out[i]);
-}
-
 static void print_made(int64_t answer, uint32_t state, uint32_t number, const uint8_t *out, size_t room)
 {
     if (answer < 0) {
@@ -272,7 +271,7 @@ static void print_made(int64_t answer, uint32_t state, uint32_t number, const ui
         print_number(number);
         print_number((uint64_t)answer);
     }
-    print_output(out, room);
+    print_bytes(out, room);
 }
 
 static void command(uint32_t state, const char *code, const char *params_word, const char *data_word, const char *room_word)
@@ -315,6 +314,77 @@ static void answer(const uint8_t *s, size_t len, uint32_t number)
     print_number(x[PTP_ANSWER_NEXT]);
 }
 
+static void print_entry(const uint8_t *row, uint64_t start, const uint64_t *x)
+{
+    print_number(start);
+    print_number(x[PTP_ENTRY_NEXT] - start);
+    print_number(x[PTP_ENTRY_KIND]);
+    print_number(x[PTP_ENTRY_VENDOR]);
+    print_number(x[PTP_ENTRY_PROPERTY]);
+    if (x[PTP_ENTRY_KIND] == PTP_FOR_ONE)
+        print_text(row, x[PTP_ENTRY_SERIAL_START], x[PTP_ENTRY_SERIAL_COUNT]);
+    else
+        printf(x[PTP_ENTRY_KIND] == PTP_FOR_ANY && x[PTP_ENTRY_SERIAL_COUNT] == 0 ? " -" : " ?");
+    print_number(x[PTP_ENTRY_TYPE]);
+    print_value(row, x[PTP_ENTRY_VALUE_START], x[PTP_ENTRY_VALUE_LENGTH], x[PTP_ENTRY_TYPE]);
+}
+
+/* The entries of a row lie end to end. */
+static void settings(bool edition, const uint8_t *row, size_t len)
+{
+    uint64_t x[PTP_ENTRY_NUMBERS], place = 0;
+    int64_t count = ptp_settings_check(edition, row, len);
+    if (count < 0) {
+        print_refusal("no", count, 0);
+        return;
+    }
+    printf("ok %" PRId64, count);
+    for (int64_t n = 0; n < count; n++) {
+        if (!gave(ptp_settings_entry(edition, row, len, place, x, PTP_ENTRY_NUMBERS), 9))
+            return;
+        print_entry(row, place, x);
+        place = x[PTP_ENTRY_NEXT];
+    }
+    if (place != len)
+        printf(" ?");
+}
+
+static void settings_find(bool edition, char *const *word)
+{
+    static uint32_t list[MOST_PARAMS];
+    static uint16_t serial[MOST_PARAMS];
+    uint64_t x[PTP_KEPT_NUMBERS];
+    size_t len = read_bytes(word[2], first), units = read_list(word[5], list);
+    for (size_t i = 0; i < units; i++)
+        serial[i] = (uint16_t)list[i];
+    int64_t found = ptp_settings_find(edition, first, len, number_of(word[3]), (uint16_t)number_of(word[4]), serial, units, x, PTP_KEPT_NUMBERS);
+    if (found == 0) {
+        printf("none");
+        return;
+    }
+    if (!gave(found, 4))
+        return;
+    printf("ok");
+    print_number(x[PTP_KEPT_KIND]);
+    print_number(x[PTP_KEPT_TYPE]);
+    print_value(first, x[PTP_KEPT_VALUE_START], x[PTP_KEPT_VALUE_LENGTH], x[PTP_KEPT_TYPE]);
+    print_number(x[PTP_KEPT_VALUE_START]);
+    print_number(x[PTP_KEPT_VALUE_LENGTH]);
+}
+
+static void settings_store(bool edition, const char *row, const char *entry, const char *room_word)
+{
+    static uint8_t stored[LONGEST];
+    size_t len = read_bytes(row, first), entry_len = read_bytes(entry, stored), room = number_of(room_word);
+    memset(second, 0xA5, room);
+    int64_t answer = ptp_settings_store(edition, first, len, stored, entry_len, second, room);
+    if (answer < 0)
+        print_refusal("no", answer, 0);
+    else
+        printf("ok %" PRId64, answer);
+    print_bytes(second, room);
+}
+
 static void record(const uint8_t *s, size_t len)
 {
     uint64_t x[PTP_RECORD_NUMBERS];
@@ -337,7 +407,7 @@ static void copy(const uint8_t *s, size_t len, const char *room_word)
         print_refusal("no", count, 0);
     else
         printf("ok %" PRId64, count);
-    print_output(second, room);
+    print_bytes(second, room);
     if (count >= 0) {
         print_number(left[PTP_LEFT_RECORDS]);
         print_number(left[PTP_LEFT_BYTES]);
@@ -393,6 +463,12 @@ static void ask(char *const *word)
         set_value(strcmp(word[1], "book") == 0, number_of(word[2]), word[3], word[4], word[5], word[6]);
     else if (strcmp(kind, "answer") == 0)
         answer(second, read_bytes(word[2], second), number_of(word[1]));
+    else if (strcmp(kind, "settings") == 0)
+        settings(number_of(word[1]) == 2, first, read_bytes(word[2], first));
+    else if (strcmp(kind, "settings-find") == 0)
+        settings_find(number_of(word[1]) == 2, word);
+    else if (strcmp(kind, "settings-store") == 0)
+        settings_store(number_of(word[1]) == 2, word[2], word[3], word[4]);
     else if (strcmp(kind, "record") == 0)
         record(first, len);
     else if (strcmp(kind, "copy") == 0)

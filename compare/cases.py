@@ -6,6 +6,7 @@ from compare.cases_datasets import DATASET_CASES
 from compare.cases_panel import PANEL_CASES
 from compare.cases_recording import RECORDING_CASES
 from compare.cases_session import SESSION_CASES
+from compare.cases_settings import SETTINGS_CASES
 from compare.cases_tree import TREE_CASES
 from compare.cases_values import VALUE_CASES, names as name_cases
 from compare.malformed import MALFORMED_CASES
@@ -14,11 +15,12 @@ from model import names
 CASES = {
     "response-name": name_cases("response-name", names.FIRST_RESPONSE, len(names.RESPONSES)),
     "command-name": name_cases("command-name", names.FIRST_COMMAND, len(names.COMMANDS)),
-    **VALUE_CASES, **DATASET_CASES, **SESSION_CASES, **PANEL_CASES, **TREE_CASES, **RECORDING_CASES, **MALFORMED_CASES,
+    **VALUE_CASES, **DATASET_CASES, **SESSION_CASES, **PANEL_CASES, **TREE_CASES, **SETTINGS_CASES, **RECORDING_CASES, **MALFORMED_CASES,
 }
 
 # How many cases a turn has of a question; one where nothing is said.
-SHARES = {"response-name": 4, "command-name": 4, "value": 5, "utf8": 2, "property": 2, "answer": 3, "tidy-value": 2, "listing": 2, "panel": 3}
+SHARES = {"response-name": 4, "command-name": 4, "value": 5, "utf8": 2, "property": 2, "answer": 3, "tidy-value": 2, "listing": 2, "panel": 3,
+          "settings": 2, "settings-find": 2, "settings-store": 3}
 
 
 def cases_of(name, seed):

@@ -38,6 +38,7 @@ def written_down():
     yield from (question for question, _, _ in differences.examples())
     yield from peers.PEERS
     yield from (f"listing {path.read_bytes().hex()}" for path in sorted(EXAMPLES.glob("*.recording")))
+    yield from (f"settings 2 {path.read_bytes().hex()}" for path in sorted(EXAMPLES.glob("*.settings")))
 
 
 def every_name():

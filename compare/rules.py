@@ -21,6 +21,7 @@ ADDED = {
     "nth": "D3", "list": "D3", "step": "D3", "newer": "D3",
     "write-string": "D4",
     "panel": "D29",
+    "settings": "D31", "settings-find": "D31", "settings-store": "D31",
     MALFORMED: "D15",
 }
 

@@ -29,9 +29,10 @@ class Words(Door):
         self.assertEqual((status, said), (0, ""))
         for words in (["--help"], ["-h"], ["list", "--help"], ["wrong", "-h"]):
             self.assertEqual(box.run(*words, kit=False), (0, page, ""), words)
-        for command in ("list", "copy", "ask", "compare", "rust", "bench", "wrong", "test", "help"):
+        commands = ("list", "copy", "settings", "ask", "compare", "rust", "bench", "wrong", "test")
+        for command in (*commands, "help"):
             self.assertIn(f"\n./ptp {command}", "\n" + page)
-        for command in ("list", "copy", "ask", "compare", "rust", "bench", "wrong", "test"):
+        for command in commands:
             self.assertRegex(page, rf"\n {{10,}}(echo .* \| )?\./ptp {command}")
 
     def refused(self, box, words, named):
@@ -58,6 +59,9 @@ class Words(Door):
         self.refused(box, ["ask", "missing.questions"], "missing.questions")
         self.refused(box, ["list", "--follow"], "--follow")
         self.refused(box, ["list", "--follow", "-"], "--follow")
+        self.refused(box, ["settings", "--check"], "--check")
+        self.refused(box, ["settings", there, "second"], "second")
+        self.refused(box, ["settings", "missing.settings"], "missing.settings")
         self.refused(box, ["copy"], "IN and OUT")
         self.refused(box, ["copy", there], "IN and OUT")
         self.refused(box, ["copy", there, "made", "more"], "IN and OUT")
@@ -112,6 +116,34 @@ class Copies(Door):
     def test_a_program_that_says_nothing_or_fails_has_copied_nothing(self):
         self.assertEqual(self.copied("", b"before"), ((1, "", ""), ["given", "made"], b"before"))
         self.assertEqual(self.copied(self.REPORT, b"before", status=3), ((1, "", self.REPORT), ["given", "made"], b"before"))
+
+
+class Rows(Door):
+    HEADING = "place kind vendor property serial type value\n"
+
+    def shown(self, answer, row=b"row"):
+        """What is shown of a row where the program answers so; the question that it was asked is kept beside it."""
+        box = self.built(f"#!/bin/sh\ncat >asked\nprintf '%s\\n' '{answer}'\n")
+        shown = box.run("settings", input=row)
+        return shown, (box.home / "asked").read_text()
+
+    def test_a_line_an_entry(self):
+        told = "ok 2 0 15 16 6 20481 - 2 7 15 20 17 6 20481 s<0041> 2 9"
+        text = self.HEADING + "0 16 6 20481 - 2 7\n15 17 6 20481 s<0041> 2 9\nentries 2 bytes 35\n"
+        self.assertEqual(self.shown(told, b"\x0f\x00\xff"), ((0, text, ""), "settings 2 0f00ff\n"))
+        self.assertEqual(self.shown("ok 0", b""), ((0, self.HEADING + "entries 0 bytes 0\n", ""), "settings 2 -\n"))
+
+    def test_many_bytes_are_asked_in_one_line(self):
+        self.assertEqual(self.shown("ok 0", b"\x41" * 5000)[1], f"settings 2 {'41' * 5000}\n")
+
+    def test_a_refused_row(self):
+        self.assertEqual(self.shown("no 1 21")[0], (1, "refusal 1 21\n", ""))
+        self.assertEqual(self.shown("no 13")[0], (1, "refusal 13\n", ""))
+
+    def test_what_is_too_long_or_fails_is_told(self):
+        self.assertEqual(self.shown("?")[0], (1, "", "ptp: the row has more than 599,994 bytes\n"))
+        box = self.built("#!/bin/sh\necho 'ask: it broke' >&2\n")
+        self.assertEqual(box.run("settings"), (1, "", "ask: it broke\n"))
 
 
 class Statuses(Door):

@@ -47,6 +47,28 @@ class Programs(unittest.TestCase):
         for path in sorted(EXAMPLES.glob("*.recording")):
             self.assertTrue(cuts.copies_well([PTP, "copy"], path.read_bytes()), path)
 
+    def test_every_row_of_settings_is_shown(self):
+        found = sorted(EXAMPLES.glob("*.settings"))
+        self.assertTrue(found)
+        for path in found:
+            text = path.with_suffix(".shown").read_text()
+            self.assertEqual(result([PTP, "settings", path], env=NO_KIT), (0, text, ""), path)
+            self.assertEqual(result([PTP, "settings"], input=path.read_bytes(), cwd="/"), (0, text, ""), path)
+            self.assertEqual(result([PTP, "settings"], input=path.read_bytes() + b"\x05"), (1, f"refusal 1 {path.stat().st_size}\n", ""), path)
+
+    def test_a_row_that_is_refused_without_a_place(self):
+        row = (EXAMPLES / "reel.settings").read_bytes()
+        self.assertEqual(result([PTP, "settings"], input=row + row), (1, "refusal 13\n", ""))
+
+    def test_no_row_and_one_that_is_too_long(self):
+        self.assertEqual(result([PTP, "settings"], input=b""), (0, "place kind vendor property serial type value\nentries 0 bytes 0\n", ""))
+        longest = 599_994
+        head = b"\x10\x00\x06\x00\x00\x00\x01\x50\x02\x40"
+        row = longest.to_bytes(4, "little") + head + (longest - 18).to_bytes(4, "little") + bytes(longest - 18)
+        status, text, said = result([PTP, "settings"], input=row)
+        self.assertEqual((status, text[-len("entries 1 bytes 599994\n"):], said), (0, "entries 1 bytes 599994\n", ""))
+        self.assertEqual(result([PTP, "settings"], input=row + b"\x00"), (1, "", "ptp: the row has more than 599,994 bytes\n"))
+
     def test_ask(self):
         self.assertEqual(result([PTP, "ask"], input=b"response-name 0x2001\nno question\n"), (0, "ok Ok\n?\n", ""))
 

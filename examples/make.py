@@ -1,16 +1,22 @@
-"""Makes the recordings of this folder, and their listings, from the descriptions beside it (*.txt).
+"""Makes the recordings of this folder, and their listings, from the descriptions beside it (*.txt); and the rows of settings, and their texts.
 
-    python3 -m examples.make            writes NAME.recording and NAME.listing for each `recording NAME`
+    python3 -m examples.make            writes NAME.recording and NAME.listing for each `recording NAME`, NAME.settings and NAME.shown for
+                                        each `settings NAME`
     python3 -m examples.make --check    writes nothing, and fails where a file is not what its description says
 
-A listing's lines are made from the description, line by line, not by reading the recording. Then the model, which
-reads the bytes, must give the same listing. No code of the crates takes part.
+A listing's lines, and a text's, are made from the description, line by line, not by reading the bytes. Then the model, which
+reads the bytes, must give the same. No code of the crates takes part.
 
-A description's lines, each one record (a line that begins with a space goes on with the one before, # begins a comment):
+A recording's lines, each one record (a line that begins with a space goes on with the one before, # begins a comment):
 
     out|in KIND CODE NUMBER FIELD ..    a container, sent or received; CODE is a name, or 0x and four digits
     note "TEXT"  or  note FIELD ..      an operator's note, of a recording that is old
     raw FIELD .. refusal NO [AT]        bytes that are refused with this number and place; `refusal -`: not reached any more
+
+A row's lines, each one entry:
+
+    any VENDOR PROPERTY TYPE FIELD ..             for any camera
+    one SERIAL VENDOR PROPERTY TYPE FIELD ..      for the camera of this serial
 
 A field is [LABEL=]TYPE:VALUE with the types u8, u16, u32, u64, string, array16, array32, hex and zeros (a count).
 """
@@ -21,7 +27,9 @@ import shlex
 import sys
 from collections import namedtuple
 
-from model import listing, names
+from model import listing, names, settings
+from model.ask import show, show_entry
+from model.values import Text
 
 FOLDER = pathlib.Path(__file__).resolve().parent
 KINDS = {"Command": 1, "Data": 2, "Response": 3, "Event": 4}
@@ -29,7 +37,9 @@ WAYS = {"in": 1, "out": 2}
 NOTE = 3
 FIELD = re.compile(r"(?:\w+=)?(u8|u16|u32|u64|string|array16|array32|hex|zeros):(.*)", re.DOTALL)
 
-# A line of a description made: the record's bytes, its line in the listing after the place, and whether it is whole.
+SETTINGS_HEADING = "place kind vendor property serial type value\n"
+
+# A line of a description made: the bytes of the record or the entry, its line after the place, and whether it is whole.
 Made = namedtuple("Made", "data text whole")
 
 
@@ -48,6 +58,17 @@ def array(text, width):
     return little(len(numbers), 4) + b"".join(little(number, width) for number in numbers)
 
 
+def units_shown(text):
+    units = text.encode("utf-16-le")
+    return show(Text(int.from_bytes(units[at:at + 2], "little") for at in range(0, len(units), 2)))
+
+
+# How a value that is one field is shown.
+FIELD_SHOWN = {
+    "string": units_shown,
+    "array16": lambda text: f"[{text}]",
+    "array32": lambda text: f"[{text}]",
+}
 FIELD_BYTES = {
     "u8": lambda text: little(int(text, 0), 1),
     "u16": lambda text: little(int(text, 0), 2),
@@ -98,7 +119,31 @@ def raw_line(_, *words):
     return Made(fields(words[:at]), None if words[at + 1] == "-" else " ".join(words[at:]), False)
 
 
-LINES = {"in": container_line, "out": container_line, "note": note_line, "raw": raw_line}
+def value_shown(words):
+    """One field's value; no field is a type's that has no value."""
+    if not words:
+        return "undef"
+    kind, value = FIELD.fullmatch(words[0]).groups()
+    return FIELD_SHOWN.get(kind, lambda text: str(int(text, 0)))(value)
+
+
+def entry(kind, vendor, code, serial, value_type, words):
+    """An entry, its serial as bytes and as it is shown."""
+    numbers = int(vendor, 0), int(code, 0), int(value_type, 0)
+    rest = little(numbers[0], 4) + little(numbers[1], 2) + serial[0] + little(numbers[2], 2) + fields(words)
+    text = f"{kind} {numbers[0]} {numbers[1]} {serial[1]} {numbers[2]} {value_shown(words)}"
+    return Made(little(6 + len(rest), 4) + little(kind, 2) + rest, text, True)
+
+
+def any_line(_, vendor, code, value_type, *words):
+    return entry(settings.FOR_ANY, vendor, code, (b"", "-"), value_type, words)
+
+
+def one_line(_, serial, vendor, code, value_type, *words):
+    return entry(settings.FOR_ONE, vendor, code, (string(serial), units_shown(serial)), value_type, words)
+
+
+LINES = {"in": container_line, "out": container_line, "note": note_line, "raw": raw_line, "any": any_line, "one": one_line}
 
 
 def joined_lines(text):
@@ -114,16 +159,16 @@ def joined_lines(text):
     return lines
 
 
-def recordings(text):
-    """Each recording's name and its lines, made."""
-    found = {}
+def described(text, kind):
+    """The name of each recording, or each row of settings, and its lines, made."""
+    found = {"recording": {}, "settings": {}}
     for line in joined_lines(text):
         words = shlex.split(line)
-        if words[0] == "recording":
-            made = found[words[1]] = []
+        if words[0] in found:
+            made = found[words[0]][words[1]] = []
         else:
             made.append(LINES[words[0]](*words))
-    return found
+    return found[kind]
 
 
 def listing_of(lines):
@@ -138,15 +183,46 @@ def listing_of(lines):
     return f"{text}records {count} bytes {place}\n"
 
 
+def shown_of(lines):
+    """The text that the description says of a row."""
+    text, place = SETTINGS_HEADING, 0
+    for made in lines:
+        text += f"{place} {made.text}\n"
+        place += len(made.data)
+    return f"{text}entries {len(lines)} bytes {place}\n"
+
+
+def shown_by_model(row):
+    """The same from the bytes: of an entry's words all but its length."""
+    entries = settings.read_row(2, row)
+    words = [[word for place, word in enumerate(show_entry(one)) if place != 1] for one in entries]
+    return SETTINGS_HEADING + "".join(" ".join(map(str, each)) + "\n" for each in words) + f"entries {len(entries)} bytes {len(row)}\n"
+
+
+def row_outputs(text):
+    for name, lines in described(text, "settings").items():
+        data, shown = b"".join(made.data for made in lines), shown_of(lines)
+        if shown_by_model(data) != shown:
+            sys.exit(f"examples: the model shows {name} otherwise than its description says")
+        yield FOLDER / f"{name}.settings", data
+        yield FOLDER / f"{name}.shown", shown.encode("ascii")
+
+
+def recording_outputs(text):
+    for name, lines in described(text, "recording").items():
+        data, listed = b"".join(made.data for made in lines), listing_of(lines)
+        if listing.listing(data) != listed:
+            sys.exit(f"examples: the model lists {name} otherwise than its description says")
+        yield FOLDER / f"{name}.recording", data
+        yield FOLDER / f"{name}.listing", listed.encode("ascii")
+
+
 def outputs():
     """Each file's path and bytes."""
     for description in sorted(FOLDER.glob("*.txt")):
-        for name, lines in recordings(description.read_text(encoding="utf-8")).items():
-            data, text = b"".join(made.data for made in lines), listing_of(lines)
-            if listing.listing(data) != text:
-                sys.exit(f"examples: the model lists {name} otherwise than its description says")
-            yield FOLDER / f"{name}.recording", data
-            yield FOLDER / f"{name}.listing", text.encode("ascii")
+        text = description.read_text(encoding="utf-8")
+        yield from recording_outputs(text)
+        yield from row_outputs(text)
 
 
 def main():

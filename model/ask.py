@@ -7,7 +7,7 @@ import binascii
 import re
 import sys
 
-from model import containers, datasets, listing, names, panel, recording, session, tree, values
+from model import containers, datasets, listing, names, panel, recording, session, settings, tree, values
 from model.refusals import ROOM, Refused, refuse_if
 
 LONGEST_LINE = 1_200_000
@@ -89,6 +89,13 @@ def layout(word):
     if word not in datasets.LAYOUTS:
         raise Malformed
     return word
+
+
+def edition(word):
+    which = u8(word)
+    if which not in settings.KINDS:
+        raise Malformed
+    return which
 
 
 def word_of(word):
@@ -341,6 +348,28 @@ def paths(*words):
     return ok(len(joined), laid_out(size, joined), show_list(ends))
 
 
+def show_entry(entry):
+    serial = "-" if entry.serial is None else show(entry.serial)
+    head = (entry.start, entry.length, entry.kind, entry.vendor, entry.property, serial, entry.type)
+    return [*head, show(entry.value)]
+
+
+def settings_row(which, row):
+    entries = settings.read_row(which, row)
+    return ok(len(entries), *(word for entry in entries for word in show_entry(entry)))
+
+
+def settings_find(which, row, vendor, code, serial):
+    found = settings.find(which, row, vendor, code, serial)
+    if found is None:
+        return "none"
+    return ok(found.kind, found.type, show(found.value), found.value_at, found.value_length)
+
+
+def settings_store(which, row, entry, size):
+    return writing_bytes(size, settings.store, which, row, entry)
+
+
 def record(data):
     return ok(*recording.read_record(data))
 
@@ -407,6 +436,9 @@ QUESTIONS = {
     "walk": (TABLE_WORDS, walk),
     "path": ((*TABLE_WORDS, u64, room), path),
     "paths": ((*TABLE_WORDS, room), paths),
+    "settings": ((edition, hex_bytes), settings_row),
+    "settings-find": ((edition, hex_bytes, u32, u16, u16s), settings_find),
+    "settings-store": ((edition, hex_bytes, hex_bytes, room), settings_store),
     "record": ((hex_bytes,), record),
     "write-record": ((u16, hex_bytes, room), write_record),
     "copy": ((hex_bytes, room), copy),

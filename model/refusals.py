@@ -16,6 +16,8 @@ RECORD = 13    # recording length below 6 or kind not 1 to 3
 LONG = 14      # a record's body over 65,000 bytes
 TYPE = 15      # another type than the description's, UNDEF, or a range of anything but integers of 8 to 64 bits
 VALUE = 16     # the description's form does not allow the value
+EDITION = 17   # an entry's kind is not one of the edition
+FULL = 18      # 256 entries with other keys are held
 
 
 class Refused(Exception):

@@ -5,6 +5,7 @@ Each entry is a question and the first words of its answer. The replay has them 
 
 import unittest
 
+from compare.cases_settings import entry_bytes, for_any, numbered
 from model.ask import answer
 
 
@@ -18,7 +19,17 @@ def flat_walk(count):
     return f"walk {places} {repeated('0', count)} {places} {'00' * count or '-'}"
 
 
+def kept(kind, rest, length=None):
+    """An entry of vendor 6 and property 0x5001 with these bytes behind them, and its own length or another."""
+    return entry_bytes(kind, bytes.fromhex("060000000150" + rest), length).hex()
+
+
 LONE = "55296"
+# An entry for any camera with the value 7, one for the serial A with the value 9, and rows of so many entries.
+ANY_7, ONE_9 = kept(16, "020007"), kept(17, "0241000000020009")
+ROW_255, ROW_256, ROW_257 = (numbered(count).hex() for count in (255, 256, 257))
+HELD, OTHER = for_any(6, 0, 0, b"").hex(), for_any(7, 0, 0, b"").hex()
+UNTIDY_OTHER = for_any(7, 0, 0xFFFF, b"\x01\x00\x00").hex()
 STORAGE_NUMBERS = "00" * 26
 OK_7 = "0c0000000300012007000000"
 EVENT_7 = "0c0000000400012007000000"
@@ -253,6 +264,117 @@ ORDERS = {
     "a slash only after a path that is not empty": [
         ("path 1,2,3 0,0,1 1,2,7 00000241000000 2 1", "ok 1 41"),
         ("path 1,2,3 0,0,1 5,6,11 0242000000000241000000 2 4", "ok 4 422f2f41"),
+    ],
+    "an entry: 1 for six bytes, 17, 13, 1 for the rest": [
+        ("settings 2 0500", "no 1 0"),
+        ("settings 2 0500000012", "no 1 4"),
+        ("settings 2 050000001200", "no 17"),
+        ("settings 1 050000001100", "no 17"),
+        ("settings 2 050000001100", "no 13"),
+        ("settings 2 0600000011", "no 1 4"),
+        ("settings 2 070000001100", "no 1 6"),
+        ("settings 2 ffffffff1000", "no 1 6"),
+        ("settings 1 ffffffff1100", "no 17"),
+        ("settings 2 060000001000", "no 1 6"),
+        (f"settings 2 {ANY_7}0500", "no 1 15"),
+        (f"settings 2 {ANY_7}050000001000", "no 13"),
+        (f"settings 2 {ANY_7}070000001000", "no 1 21"),
+    ],
+    "an entry's fields in their order, within its length: 1 and 2": [
+        ("settings 2 09000000100006000000", "no 1 6"),
+        (f"settings 2 {kept(16, '020007', 9)}", "no 1 6"),
+        (f"settings 2 {kept(16, '020007', 11)}", "no 1 10"),
+        (f"settings 2 {kept(16, '020007', 13)}", "no 1 12"),
+        (f"settings 2 {kept(16, '020007', 14)}", "no 1 14"),
+        (f"settings 2 {kept(16, '0200')}{ANY_7}", "no 1 14"),
+        (f"settings 2 {kept(16, '0240ffffff7f07')}", "no 1 14"),
+        (f"settings 2 {kept(17, '02410000')}", "no 1 12"),
+        (f"settings 2 {kept(17, '0200d800')}", "no 1 12"),
+        (f"settings 2 {kept(17, '0200d80000')}", "no 2 12"),
+        (f"settings 2 {kept(17, '0200d80000ffff02')}", "no 2 12"),
+        (f"settings 2 {kept(17, '024100000002')}", "no 1 17"),
+        (f"settings 2 {kept(17, '01410002')}", "no 1 15"),
+        (f"settings 2 {kept(17, '014100ffff')}", "no 1 17"),
+        (f"settings 2 {kept(17, '014100ffff0200d800')}", "no 1 17"),
+        (f"settings 2 {kept(17, '014100ffff0200d80000')}", "no 2 17"),
+        (f"settings 2 {kept(16, 'ffff0200d8000000')}", "no 2 14"),
+        (f"settings 2 {ANY_7}{kept(17, '0200d80000')}", "no 2 27"),
+    ],
+    "then 3, then 13 untidy": [
+        (f"settings 2 {kept(16, '020007ff')}", "no 3"),
+        (f"settings 2 {kept(16, '000000')}", "no 3"),
+        (f"settings 2 {kept(16, 'ffff01410000')}", "no 3"),
+        (f"settings 2 {kept(16, 'ffff014100')}", "no 13"),
+        (f"settings 2 {kept(16, 'ffff010000')}", "no 13"),
+        (f"settings 2 {kept(16, 'ffff0241000100')}", "no 13"),
+        (f"settings 2 {kept(16, 'ffff0241000000')}", "ok 1"),
+        (f"settings 2 {kept(16, 'ffff00')}", "ok 1"),
+        (f"settings 2 {kept(17, '010000020009')}", "no 13"),
+        (f"settings 2 {kept(17, '010000020009ff')}", "no 3"),
+        (f"settings 2 {kept(17, '0241000001020009')}", "no 13"),
+        (f"settings 2 {kept(17, '00ffff0241000001')}", "no 13"),
+        (f"settings 2 {ANY_7}{kept(16, 'ffff014100')}", "no 13"),
+    ],
+    "a key that stood before is 13, and kinds and serials part keys": [
+        (f"settings 2 {ANY_7}{ANY_7}", "no 13"),
+        (f"settings 2 {ANY_7}{ONE_9}{ANY_7}", "no 13"),
+        (f"settings 2 {ONE_9}{ONE_9}", "no 13"),
+        (f"settings 2 {ONE_9}{ANY_7}", "ok 2"),
+        (f"settings 2 {ANY_7}{kept(16, '020007ff')}", "no 3"),
+        (f"settings 2 {ONE_9}{kept(17, '00020009')}", "ok 2"),
+        (f"settings 1 {ANY_7}{ONE_9}", "no 17"),
+    ],
+    "256 entries and 257; 13 before 18": [
+        (f"settings 2 {ROW_256}", "ok 256"),
+        (f"settings 2 {ROW_257}", "no 18"),
+        (f"settings 2 {ROW_256}00", "no 1"),
+        (f"settings 2 {ROW_256}{OTHER}", "no 18"),
+        (f"settings 2 {ROW_256}{HELD}", "no 13"),
+        (f"settings 2 {ROW_256}{UNTIDY_OTHER}", "no 13"),
+        (f"settings 2 {ROW_257}{HELD}", "no 18"),
+        (f"settings-find 2 {ROW_256} 6 0 -", "ok 16 0 undef"),
+        (f"settings-find 2 {ROW_257} 6 0 -", "no 18"),
+        (f"settings-store 2 {ROW_257} {HELD} 0", "no 18 -"),
+        (f"settings-store 2 {ROW_256} {OTHER} 0", "no 18 -"),
+        (f"settings-store 2 {ROW_256} {UNTIDY_OTHER} 0", "no 13 -"),
+        (f"settings-store 2 {ROW_256} {HELD} 0", "no 9 -"),
+        (f"settings-store 2 {ROW_255} {OTHER} 0", "no 9 -"),
+        (f"settings-store 2 {ROW_256} {HELD} {len(ROW_256) // 2}", f"ok {len(ROW_256) // 2}"),
+        (f"settings-store 2 {ROW_255} {OTHER} {len(ROW_255) // 2 + 14}", f"ok {len(ROW_255) // 2 + 14}"),
+    ],
+    "finding: the row's refusals, a serial's own entry, any serial's, none": [
+        (f"settings-find 2 {ANY_7}{ONE_9}00 6 0x5001 65", "no 1 35"),
+        (f"settings-find 1 {ANY_7}{ONE_9} 6 0x5001 65", "no 17"),
+        (f"settings-find 2 {ANY_7}{ONE_9} 6 0x5001 65", "ok 17 2 9 34 1"),
+        (f"settings-find 2 {ONE_9}{ANY_7} 6 0x5001 65", "ok 17 2 9 19 1"),
+        (f"settings-find 2 {ONE_9}{ANY_7} 6 0x5001 -", "ok 16 2 7 34 1"),
+        (f"settings-find 2 {ONE_9}{ANY_7} 6 0x5001 65,0", "ok 16 2 7 34 1"),
+        (f"settings-find 2 {ONE_9}{ANY_7} 6 0x5001 {repeated('65', 300)}", "ok 16 2 7 34 1"),
+        (f"settings-find 2 {ONE_9}{ANY_7} 6 0x5001 {LONE}", "ok 16 2 7 34 1"),
+        (f"settings-find 2 {ONE_9} 6 0x5001 66", "none"),
+        (f"settings-find 2 {ANY_7} 6 0x5002 65", "none"),
+        (f"settings-find 2 {ANY_7} 7 0x5001 65", "none"),
+        (f"settings-find 1 {ANY_7} 6 0x5001 65", "ok 16 2 7 14 1"),
+        ("settings-find 1 - 6 0x5001 -", "none"),
+        (f"settings-find 2 {kept(17, '00020009')} 6 0x5001 -", "ok 17 2 9 15 1"),
+    ],
+    "storing: the row's, the new entry's from its first byte, then 9": [
+        (f"settings-store 1 {ANY_7[:-2]} 05 0", "no 1 6 -"),
+        (f"settings-store 1 {ANY_7} 05 0", "no 1 0 -"),
+        (f"settings-store 1 {ANY_7} - 0", "no 1 0 -"),
+        (f"settings-store 1 {ANY_7} {ONE_9} 0", "no 17 -"),
+        (f"settings-store 1 {ANY_7} {ANY_7[:-2]} 0", "no 1 6 -"),
+        (f"settings-store 1 {ANY_7} {ANY_7}00 0", "no 3 -"),
+        (f"settings-store 2 {ANY_7} {ANY_7}{ONE_9} 0", "no 3 -"),
+        (f"settings-store 2 - {kept(16, 'ffff014100')}00 0", "no 3 -"),
+        (f"settings-store 2 - {kept(16, 'ffff014100')} 0", "no 13 -"),
+        (f"settings-store 1 {ANY_7} {ANY_7} 14", f"no 9 {'a5' * 14}"),
+        (f"settings-store 1 {ANY_7} {ANY_7} 16", f"ok 15 {ANY_7}a5"),
+        (f"settings-store 2 {ANY_7} {ONE_9} 35", f"ok 35 {ANY_7}{ONE_9}"),
+        (f"settings-store 2 {ONE_9}{ANY_7} {kept(16, '00')} 0", "no 1 12 -"),
+        (f"settings-store 2 {ONE_9}{ANY_7} {kept(16, '0000')} 34", f"ok 34 {ONE_9}{kept(16, '0000')}"),
+        (f"settings-store 2 {ONE_9}{ANY_7} {kept(17, '00020003')} 51", f"ok 51 {ONE_9}{ANY_7}{kept(17, '00020003')}"),
+        (f"settings-store 2 - {kept(16, '0000')} 14", f"ok 14 {kept(16, '0000')}"),
     ],
     "a record: 1, 13, 14, 1, the container's, 6, 3": [
         ("record 0500000009", "no 1 4"),

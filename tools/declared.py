@@ -1,7 +1,7 @@
 """Fails where C or Rust declares an exported function otherwise than its Rattle source: nothing else compares them.
 
 Compared: the parameters' types and the result of each function of the crates `abi` and `bench` with c/ptp.h, rust/src/archive.rs and
-bench/driver/archive.rs, which may not declare any other; and how many numbers ptp.h has in a dataset's and a record's answer."""
+bench/driver/archive.rs, which may not declare any other; and how many numbers ptp.h has in a dataset's, a record's and an entry's answer."""
 import os
 import re
 import sys
@@ -68,7 +68,7 @@ def declared_in_rust(source):
 
 def rows(header):
     """How many numbers each row function of `abi` makes, and how many names ptp.h has before the one that counts them."""
-    for name, size in re.findall(r'fn (device|object|storage|prop|record)_row\(.*?\) -> \[u64; (\d+)\]', sources('abi'), re.S):
+    for name, size in re.findall(r'fn (device|object|storage|prop|record|entry)_row\(.*?\) -> \[u64; (\d+)\]', sources('abi'), re.S):
         listed = re.search(r'enum ptp_%s_number \{(.*?)PTP_%s_NUMBERS' % (name, name.upper()), header, re.S).group(1)
         yield name, int(size), len(parts(re.sub(r'/\*.*?\*/', '', listed, flags=re.S)))
 
@@ -93,8 +93,8 @@ def main():
                 faults.append('%s: %s takes %s, and is declared with %s' % (place, name, in_c(every[name][0]), words))
     counts = list(rows(header))
     faults += ['c/ptp.h: %s has %d numbers, and %d names' % row for row in counts if row[1] != row[2]]
-    if len(counts) != 5:
-        faults.append('c/ptp.h: %d of 5 answers were found' % len(counts))
+    if len(counts) != 6:
+        faults.append('c/ptp.h: %d of 6 answers were found' % len(counts))
     print('\n'.join(faults) if faults else 'declared: %d declarations of %d exported functions' % (sum(map(len, places.values())), len(every)))
     return 1 if faults else 0
 

@@ -18,6 +18,10 @@ mod archive {
                        with_data: bool, out: *mut u8, room: usize) -> u64;
         pub fn ptp_set_value(book: bool, number: *mut u32, description: *const u8, description_len: usize, code: u16, value: *const u8,
                          value_len: usize, out: *mut u8, room: usize) -> u64;
+        pub fn ptp_settings_find(second: bool, row: *const u8, row_len: usize, vendor: u32, property: u16, serial: *const u16,
+                             serial_len: usize, out: *mut u64, room: usize) -> u64;
+        pub fn ptp_settings_store(second: bool, row: *const u8, row_len: usize, entry: *const u8, entry_len: usize, out: *mut u8,
+                              room: usize) -> u64;
         pub fn ptp_find_answer(s: *const u8, len: usize, number: u32, out: *mut u64, room: usize) -> u64;
         pub fn ptp_paths(handles: *const u32, handle_count: usize, parents: *const u16, parent_count: usize,
                      ends: *const u32, end_count: usize, names: *const u8, len: usize, out: *mut u8, room: usize,
@@ -68,6 +72,18 @@ mod archive {
         unsafe {
             ptp_set_value(false, &mut number, description.as_ptr(), description.len(), code, value.as_ptr(), value.len(),
                           out.as_mut_ptr(), out.len())
+        }
+    }
+
+    pub fn settings_find(row: &[u8], vendor: u32, property: u16, serial: &[u16], out: &mut [u64]) -> u64 {
+        unsafe {
+            ptp_settings_find(true, row.as_ptr(), row.len(), vendor, property, serial.as_ptr(), serial.len(), out.as_mut_ptr(), out.len())
+        }
+    }
+
+    pub fn settings_store(row: &[u8], entry: &[u8], out: &mut [u8]) -> u64 {
+        unsafe {
+            ptp_settings_store(true, row.as_ptr(), row.len(), entry.as_ptr(), entry.len(), out.as_mut_ptr(), out.len())
         }
     }
 

@@ -16,6 +16,7 @@ fn main() {
     containers::containers();
     trees::trees();
     names::names();
+    settings::settings();
     if words.len() == 3 {
         listing::listing(&words[0], &words[1], &words[2]);
     }

@@ -58,6 +58,28 @@ extern "C" {
         out_len: usize,
     ) -> i64;
     fn ptp_find_answer(s: *const u8, s_len: usize, number: u32, out: *mut u64, out_len: usize) -> i64;
+    fn ptp_settings_check(second: bool, row: *const u8, row_len: usize) -> i64;
+    fn ptp_settings_entry(second: bool, s: *const u8, s_len: usize, at: usize, out: *mut u64, out_len: usize) -> i64;
+    fn ptp_settings_find(
+        second: bool,
+        row: *const u8,
+        row_len: usize,
+        vendor: u32,
+        property: u16,
+        serial: *const u16,
+        serial_len: usize,
+        out: *mut u64,
+        out_len: usize,
+    ) -> i64;
+    fn ptp_settings_store(
+        second: bool,
+        row: *const u8,
+        row_len: usize,
+        entry: *const u8,
+        entry_len: usize,
+        out: *mut u8,
+        out_len: usize,
+    ) -> i64;
     fn ptp_walk(
         handles: *const u32,
         handles_len: usize,
@@ -92,7 +114,7 @@ fn told(answer: i64) -> Result<usize, Refusal> {
         return Ok(answer as usize);
     }
     let refusal = answer.unsigned_abs();
-    Err(Refusal::from_number(refusal % 256, (refusal / 256) as usize).expect("the archive refuses by 1 to 16"))
+    Err(Refusal::from_number(refusal % 256, (refusal / 256) as usize).expect("the archive refuses by 1 to 18"))
 }
 
 // `f` is one of the archive's.
@@ -205,6 +227,45 @@ pub(crate) fn find_answer(s: &[u8], number: u32) -> Result<[u64; 4], Refusal> {
     Ok(out)
 }
 
+pub(crate) fn settings_check(second: bool, row: &[u8]) -> Result<usize, Refusal> {
+    told(unsafe { ptp_settings_check(second, row.as_ptr(), row.len()) })
+}
+
+pub(crate) fn settings_entry(second: bool, row: &[u8], at: usize) -> Result<[u64; 9], Refusal> {
+    let mut out = [0; 9];
+    told(unsafe { ptp_settings_entry(second, row.as_ptr(), row.len(), at, out.as_mut_ptr(), out.len()) })?;
+    Ok(out)
+}
+
+// No numbers are given of what is not held.
+pub(crate) fn settings_find(
+    second: bool,
+    row: &[u8],
+    vendor: u32,
+    property: u16,
+    serial: &[u16],
+) -> Result<Option<[u64; 4]>, Refusal> {
+    let mut out = [0; 4];
+    let given = told(unsafe {
+        ptp_settings_find(
+            second,
+            row.as_ptr(),
+            row.len(),
+            vendor,
+            property,
+            serial.as_ptr(),
+            serial.len(),
+            out.as_mut_ptr(),
+            out.len(),
+        )
+    })?;
+    Ok(if given == 0 { None } else { Some(out) })
+}
+
+pub(crate) fn settings_store(second: bool, row: &[u8], entry: &[u8], out: &mut [u8]) -> Result<usize, Refusal> {
+    told(unsafe { ptp_settings_store(second, row.as_ptr(), row.len(), entry.as_ptr(), entry.len(), out.as_mut_ptr(), out.len()) })
+}
+
 pub(crate) fn walk(handles: &[u32], parents: &[u16], ends: &[u32], names: &[u8], places: &mut [u16]) -> Result<usize, Refusal> {
     told(unsafe {
         ptp_walk(
@@ -277,6 +338,19 @@ mod tests {
         try_rooms(crate_prop_info, &[0; 64], 16);
         try_rooms(book_prop_info, &[0; 64], 16);
         try_rooms(ptp_read_record, &[6, 0, 0, 0, 3, 0], 9);
+        try_rooms(first_setting, &ENTRY, 9);
+        try_rooms(found_setting, &ENTRY, 4);
+    }
+
+    // An entry for any camera, without a value: alone in its row it is the first, and what is found.
+    const ENTRY: [u8; 14] = [14, 0, 0, 0, 16, 0, 6, 0, 0, 0, 1, 0, 0, 0];
+
+    unsafe extern "C" fn first_setting(s: *const u8, s_len: usize, out: *mut u64, out_len: usize) -> i64 {
+        ptp_settings_entry(true, s, s_len, 0, out, out_len)
+    }
+
+    unsafe extern "C" fn found_setting(s: *const u8, s_len: usize, out: *mut u64, out_len: usize) -> i64 {
+        ptp_settings_find(true, s, s_len, 6, 1, [].as_ptr(), 0, out, out_len)
     }
 
     // A note and an empty Response: room for the copy and not for the two numbers, and the other way round.
@@ -299,9 +373,16 @@ mod tests {
 
     #[test]
     fn refused_rows_keep_their_numbers() {
-        for f in
-            [ptp_device_info as ReadsBytes, ptp_object_info, ptp_storage_info, crate_prop_info, book_prop_info, ptp_read_record]
-        {
+        for f in [
+            ptp_device_info as ReadsBytes,
+            ptp_object_info,
+            ptp_storage_info,
+            crate_prop_info,
+            book_prop_info,
+            ptp_read_record,
+            first_setting,
+            found_setting,
+        ] {
             let mut out = [KEPT; 32];
             assert_eq!(read_into(f, &[6], &mut out), Err(Refusal::END { at: 0 }));
             assert_eq!(out, [KEPT; 32]);

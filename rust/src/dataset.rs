@@ -46,7 +46,7 @@ impl<'a, 'n> Row<'a, 'n> {
         &self.bytes[start..start + 2 * count]
     }
 
-    fn text(&mut self) -> PtpString<'a> {
+    pub(crate) fn text(&mut self) -> PtpString<'a> {
         PtpString::new(self.pairs())
     }
 

@@ -17,6 +17,7 @@ mod property;
 mod record;
 mod refusal;
 mod session;
+mod settings;
 mod text;
 mod tree;
 mod value;
@@ -27,6 +28,7 @@ pub use property::{newer_value, tidy_property, Newer, PropLayout, PtpFormData, P
 pub use record::{copy_recording, read_record, Copied, PtpContainer, PtpContainerType, PtpRecord, RecordKind};
 pub use refusal::Refusal;
 pub use session::{find_answer, Answer, Made, Session, StandardCommandCode, StandardResponseCode};
+pub use settings::{entry_bytes, Edition, Entries, Kept, Setting, Settings};
 pub use text::PtpString;
 pub use tree::{ObjectTable, Paths};
 pub use value::{PtpDataType, PtpValue};

@@ -1,7 +1,7 @@
 //! Why a call gave nothing.
 use core::fmt;
 
-/// The sixteen refusals. Where several conditions hold, a call gives the first in its own order.
+/// The eighteen refusals. Where several conditions hold, a call gives the first in its own order.
 ///
 /// What could not be read is told with `at`, the place of the first byte of the field that failed: an array's count, a string's count byte,
 /// a list's failing value. It counts in the bytes that were lent; of an object's name in that name.
@@ -31,7 +31,7 @@ pub enum Refusal {
     TABLE,
     /// an index that does not exist
     PLACE,
-    /// a record's length is below 6, or its kind not 1 to 3
+    /// a record's length is below 6, or its kind not 1 to 3; a setting's length is below 6, it is untidy, or its key stood before
     RECORD,
     /// a record's body is over 65,000 bytes
     LONG,
@@ -39,16 +39,20 @@ pub enum Refusal {
     TYPE,
     /// the description's form does not allow the value
     VALUE,
+    /// a setting's kind is not one of the edition
+    EDITION,
+    /// 256 settings with other keys are held
+    FULL,
 }
 
 use Refusal::*;
 
 // Those without a place, from 3 on.
-const PLAIN: [Refusal; 14] =
-    [TRAIL, KIND, LENGTH, SIZE, TID, NOPHASE, ROOM, COUNT, TABLE, PLACE, RECORD, LONG, TYPE, VALUE];
+const PLAIN: [Refusal; 16] =
+    [TRAIL, KIND, LENGTH, SIZE, TID, NOPHASE, ROOM, COUNT, TABLE, PLACE, RECORD, LONG, TYPE, VALUE, EDITION, FULL];
 
 impl Refusal {
-    /// Its number, 1 to 16.
+    /// Its number, 1 to 18.
     pub fn number(self) -> u8 {
         match self {
             END { .. } => 1,

@@ -3,3 +3,4 @@ pub mod Minus
 pub mod Copying
 pub mod Unique
 pub mod Given
+pub mod Kept

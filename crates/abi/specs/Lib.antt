@@ -2,3 +2,4 @@ pub mod Answered
 pub mod Copied
 pub mod Rows
 pub mod Sent
+pub mod Settings

@@ -6,6 +6,7 @@ mod dataset;
 mod object_table;
 mod property;
 mod record;
+mod setting;
 mod transaction;
 
 pub use answer::give;

@@ -1,4 +1,5 @@
-// The questions whose answers have no bound: their text is put as it comes.
+// The questions whose answers have no bound, or that need a list that is no writer's: their text is put as it comes.
+use crate::kept;
 use crate::list;
 use crate::listed;
 use crate::reads;
@@ -135,6 +136,8 @@ pub fn of(
         b'n' => newer(a, line, text, at),
         b'w' => walk(a, src, halves, numbers, text, at),
         b'p' => paths(a, src, halves, numbers, text, at),
+        b's' => kept::row(a, src, text, at),
+        b'f' => kept::find(a, src, halves, text, at),
         b'c' => copy(a, src, text, at),
         b'L' => listed::answer(src, text, at),
         _ => print::unknown(text, at),

@@ -3,6 +3,7 @@
 mod fields;
 mod input;
 mod integer;
+mod kept;
 mod list;
 mod listed;
 mod long;

@@ -10,7 +10,7 @@ pub const READS: u8 = b'r';
 
 pub const WRITES: u8 = b'w';
 
-const TABLE: [u8; 681] = *b"\
+const TABLE: [u8; 742] = *b"\
     response-name rR 2;\
     command-name rC 2;\
     value rv 28b;\
@@ -51,6 +51,9 @@ const TABLE: [u8; 681] = *b"\
     walk lw nhnb;\
     path wp nhnb8r;\
     paths lp nhnbr;\
+    settings ls eb;\
+    settings-find lf eb42h;\
+    settings-store wk ebbr;\
     record rr b;\
     write-record wr 2br;\
     copy lc br;\

@@ -1,6 +1,7 @@
 // The questions that write: words, bytes and lists in, the output filled and lent, pieces out.
 use crate::integer;
 use crate::integer::Given;
+use crate::kept;
 use crate::reads;
 use session::Made;
 use session::Session;
@@ -172,6 +173,7 @@ pub fn of(
 ) -> Told {
     match arm {
         b'n' => set_value(a, line, src, page),
+        b'k' => kept::store(a, line, src, page),
         b'v' => write_value(a, src, page),
         b'C' => call(a, src, page),
         b's' => told::written(wire::write_text(slice::part16(halves, a.counts[0]), page)),

@@ -1,6 +1,6 @@
 // A question's words, read by its signature: a letter a word.
 // 1 2 4 8: a number of so many bytes; r: a room; b: bytes; h: a list of 16-bit numbers, of which there is one at most; n: of 32-bit
-// ones, as many as are lent room; l: a description's layout, `crate` or `book`; w: as it stands.
+// ones, as many as are lent room; l: a description's layout, `crate` or `book`; e: an edition, 1 or 2; w: as it stands.
 use crate::list;
 use crate::number;
 use crate::slice;
@@ -57,6 +57,15 @@ fn a_layout(w: &[u8]) -> Got {
     }
 }
 
+fn an_edition(w: &[u8]) -> Got {
+    let n = number::parse(w, 2);
+    Got {
+        number: n.v as usize,
+        count: 0,
+        ok: n.ok && 0 < n.v,
+    }
+}
+
 fn one(
     letter: u8,
     w: &mut [u8],
@@ -91,6 +100,7 @@ fn one(
             }
         }
         b'l' => a_layout(w),
+        b'e' => an_edition(w),
         b'w' => Got {
             number: start,
             count: w.len(),

@@ -1,11 +1,12 @@
 //! The questions of docs/ASK.md that the interface can answer, answered through it.
 mod datasets;
 mod links;
+mod settings;
 mod show;
 mod words;
 
 /// Every kind that is compared.
-pub const KINDS: [&str; 19] = [
+pub const KINDS: [&str; 22] = [
     "device",
     "object",
     "storage",
@@ -22,6 +23,9 @@ pub const KINDS: [&str; 19] = [
     "walk",
     "path",
     "paths",
+    "settings",
+    "settings-find",
+    "settings-store",
     "record",
     "copy",
     "container",
@@ -46,6 +50,9 @@ pub fn answer(kind: &str, words: &[&str]) -> Option<String> {
         ("walk", [handles, parents, ends, names]) => links::walk([handles, parents, ends, names]),
         ("path", [handles, parents, ends, names, place, room]) => links::path([handles, parents, ends, names], place, room),
         ("paths", [handles, parents, ends, names, room]) => links::paths([handles, parents, ends, names], room),
+        ("settings", [edition, row]) => settings::row(edition, row),
+        ("settings-find", [edition, row, vendor, property, serial]) => settings::find(edition, row, vendor, property, serial),
+        ("settings-store", [edition, row, entry, room]) => settings::store(edition, row, entry, room),
         ("record", [s]) => links::record(s),
         ("copy", [s, room]) => links::copy(s, room),
         ("container", [s]) => links::container(s),

@@ -1,0 +1,17 @@
+pub mod Values
+pub mod Tidy
+pub mod Ahead
+pub mod Entries
+pub mod Spelled
+pub mod Rows
+pub mod Accepted
+pub mod Keys
+pub mod Storing
+pub mod Puts
+pub mod Exact
+pub mod Stored
+pub mod Stays
+pub mod Editions
+pub mod Unique
+pub mod Told
+pub mod Judged
