@@ -1,4 +1,4 @@
-/* The byte layer of the picture transfer protocol: eighteen proved functions, in C.
+/* The byte layer of the picture transfer protocol: nineteen proved functions, in C.
  *
  * Each function answers how many numbers or bytes it gave, 0 or more; or a refusal, below 0: minus (its number, 1 to 18, and 256 times its
  * place), which ptp_refusal_number and ptp_refusal_place take apart. The place is that of the first byte of the field that failed, for
@@ -334,6 +334,19 @@ enum ptp_left_number { PTP_LEFT_RECORDS, PTP_LEFT_BYTES, PTP_LEFT_NUMBERS /* 2 *
 /* A whole recording without its notes: the bytes written, and in `left` how many records and bytes, headers included, were left out.
  * Refusals: those of its first refused record, END by its place in s; ROOM for either output. A refused copy writes to neither. */
 int64_t ptp_copy_recording(const uint8_t *s, size_t s_len, uint8_t *out, size_t out_len, uint64_t *left, size_t left_len);
+
+/* What counts has after a recording was mended. */
+enum ptp_mended_number {
+    PTP_MENDED_STRETCHES, /* how many stretches were dropped */
+    PTP_MENDED_NUMBERS    /* 1 */
+};
+
+/* A damaged recording mended: every record that can still be read, from the front, is kept as it stands, notes too; where none stands, one
+ * byte is dropped. Bytes in damage that look like a record are kept. Answers how many bytes; the dropped stretches, of which no two touch,
+ * are told in rising order by their starts in s and their lengths. Refusal: ROOM for any of the four outputs, and nothing is written; the
+ * starts and the lengths have room for as many stretches as the shorter of the two. */
+int64_t ptp_mend_recording(const uint8_t *s, size_t s_len, uint8_t *out, size_t out_len, uint64_t *starts, size_t starts_len,
+                           uint64_t *lengths, size_t lengths_len, uint64_t *counts, size_t counts_len);
 
 #ifdef __cplusplus
 }

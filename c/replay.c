@@ -414,6 +414,39 @@ static void copy(const uint8_t *s, size_t len, const char *room_word)
     }
 }
 
+/* Equal neighbours as one, with their count. */
+static void print_runs(const uint64_t *list, size_t len)
+{
+    fputs(len ? " " : " -", stdout);
+    for (size_t i = 0, times; i < len; i += times) {
+        for (times = 1; i + times < len && list[i + times] == list[i]; times++)
+            ;
+        printf("%s%" PRIu64, i ? "," : "", list[i]);
+        if (times > 1)
+            printf("*%zu", times);
+    }
+}
+
+static void mend(const uint8_t *s, size_t len, const char *room_word, const char *report_word)
+{
+    static uint64_t starts[MOST_PARAMS], lengths[MOST_PARAMS];
+    uint64_t x[PTP_MENDED_NUMBERS];
+    size_t room = number_of(room_word), report = number_of(report_word);
+    memset(second, 0xA5, room);
+    memset(starts, 0xA5, sizeof starts);
+    memset(lengths, 0xA5, sizeof lengths);
+    int64_t answer = ptp_mend_recording(s, len, second, room, starts, report, lengths, report, x, PTP_MENDED_NUMBERS);
+    if (answer < 0)
+        print_refusal("no", answer, 0);
+    else
+        printf("ok %" PRId64, answer);
+    print_bytes(second, room);
+    if (answer >= 0)
+        print_number(x[PTP_MENDED_STRETCHES]);
+    print_runs(starts, report);
+    print_runs(lengths, report);
+}
+
 /* A container is asked for as the body of a record. That refuses bytes after it, of which the question says nothing: then the body is cut to
  * the container's own length. */
 static void container(const uint8_t *s, size_t len, uint8_t *lent)
@@ -473,6 +506,8 @@ static void ask(char *const *word)
         record(first, len);
     else if (strcmp(kind, "copy") == 0)
         copy(first, len, word[2]);
+    else if (strcmp(kind, "mend") == 0)
+        mend(first, len, word[2], word[3]);
     else if (strcmp(kind, "container") == 0)
         container(first, len, second);
 }

@@ -3,6 +3,7 @@
 import random
 
 from compare.cases_datasets import DATASET_CASES
+from compare.cases_mending import MENDING_CASES
 from compare.cases_panel import PANEL_CASES
 from compare.cases_recording import RECORDING_CASES
 from compare.cases_session import SESSION_CASES
@@ -15,12 +16,12 @@ from model import names
 CASES = {
     "response-name": name_cases("response-name", names.FIRST_RESPONSE, len(names.RESPONSES)),
     "command-name": name_cases("command-name", names.FIRST_COMMAND, len(names.COMMANDS)),
-    **VALUE_CASES, **DATASET_CASES, **SESSION_CASES, **PANEL_CASES, **TREE_CASES, **SETTINGS_CASES, **RECORDING_CASES, **MALFORMED_CASES,
+    **VALUE_CASES, **DATASET_CASES, **SESSION_CASES, **PANEL_CASES, **TREE_CASES, **SETTINGS_CASES, **RECORDING_CASES, **MENDING_CASES, **MALFORMED_CASES,
 }
 
 # How many cases a turn has of a question; one where nothing is said.
 SHARES = {"response-name": 4, "command-name": 4, "value": 5, "utf8": 2, "property": 2, "answer": 3, "tidy-value": 2, "listing": 2, "panel": 3,
-          "settings": 2, "settings-find": 2, "settings-store": 3}
+          "settings": 2, "settings-find": 2, "settings-store": 3, "mend": 3}
 
 
 def cases_of(name, seed):

@@ -13,7 +13,7 @@ GOOD = [
     "newer crate 0150 00", "header 0c00", "write-container 1 2 3 00 13", "command 0 4098 3,0,0 24",
     "command-data 0 4118 - 00 40", "call OpenSession 0 0 0 0 24", "answer 0 -", "handles 00000000",
     "walk 1 0 1 00", "path 1 0 1 00 0 4", "paths 1 0 1 00 4", "settings 1 00",
-    "settings-find 2 - 6 20481 65,66", "settings-store 1 - 00 9", "record 00", "write-record 3 41 9", "copy 060000000300 1", "listing -",
+    "settings-find 2 - 6 20481 65,66", "settings-store 1 - 00 9", "record 00", "write-record 3 41 9", "copy 060000000300 1", "mend 060000000300 6 1", "listing -",
     "response-name 8193", "command-name 4098",
 ]
 BAD_WORDS = ["", "x", "-1", "+1", "1.", "0x", "0X10", "0xg", "1,", ",1", "1,,2", "--", "0g", "123", "\t", "1:2", "1:", "undefined",
@@ -30,13 +30,14 @@ OUT_OF_RANGE = [
     "property pima 0150", "property cratebook 0150", "list BOOK 0150", "call GetThumb 0 0 0 0 24", "call opensession 0 0 0 0 24", "command 4294967296 1 - 12", "command 0 65536 - 12",
     "settings 0 -", "settings 3 -", "settings 257 -", "settings - -", "settings crate -", "settings -", "settings-find 2 - 4294967296 1 -", "settings-find 2 - 6 65536 -", "settings-find 1 - 6 1 65536",
     "settings-find 2 - 6 1", "settings-store 0 - - 9", "settings-store 2 - - 1048577",
+    "mend - 0", "mend - 0 4097", "mend - 1048577 0", "mend - 0 -", "mend - 0 0x1001",
 ]
 # Not malformed, though they look so: `ask` must take them.
 ODD_BUT_GOOD = [
     "value 0x0004 000 3412", "value 0X4 0 3412", "value 4 0x0 aBcD", "write-value 1 -0 1", "write-value 1 -0x80 1",
     "write-value 5 -2147483648 4", "write-value 8 0xffffffffffffffff 8", "write-value 9 0x1:0x2 16",
     "utf8 0 00 0000000000000000000000000000001", "end 0x0000000000000000000000000 00", "utf8 0 00 1048576",
-    "settings 0x1 -", "settings 002 -", "settings-find 0x02 - 0x6 0 0x41,0x42",
+    "settings 0x1 -", "settings 002 -", "settings-find 0x02 - 0x6 0 0x41,0x42", "mend - 0 4096", "mend ff 0x0 0x2",
 ]
 
 

@@ -22,6 +22,7 @@ ADDED = {
     "write-string": "D4",
     "panel": "D29",
     "settings": "D31", "settings-find": "D31", "settings-store": "D31",
+    "mend": "D32",
     MALFORMED: "D15",
 }
 

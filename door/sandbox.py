@@ -8,7 +8,7 @@ import subprocess
 import tempfile
 
 ROOT = pathlib.Path(__file__).resolve().parent.parent
-CRATES = "layout:\nwire: layout\ntree: wire layout\nlist: wire layout io\ncopy: wire layout io\nask: tree io\nabi: wire\n"
+CRATES = "layout:\nwire: layout\ntree: wire layout\nlist: wire layout io\ncopy: wire layout io\nmend: wire layout io\nask: tree io\nabi: wire\n"
 
 # An rt that takes SLOW seconds for each crate that has no stamp, and makes the program.
 RT = """#!/bin/sh
@@ -44,12 +44,12 @@ def read_some(file, seconds=30):
 
 
 class Sandbox:
-    """`program` is the text of the script that `list`, `copy` and `ask` are; `machine` is what uname says."""
+    """`program` is the text of the script that `list`, `copy`, `mend` and `ask` are; `machine` is what uname says."""
 
     def __init__(self, program, machine="x86_64"):
         self.folder = pathlib.Path(tempfile.mkdtemp())
         self.home = self.folder / "repository"
-        for crate in ("layout", "wire", "tree", "list", "copy", "ask", "abi"):
+        for crate in ("layout", "wire", "tree", "list", "copy", "mend", "ask", "abi"):
             (self.home / "crates" / crate / "src").mkdir(parents=True)
             (self.home / "crates" / crate / "src" / "lib.rt").write_text("")
         (self.home / "crates.txt").write_text(CRATES)

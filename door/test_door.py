@@ -19,7 +19,7 @@ class Door(unittest.TestCase):
         return box
 
     def built(self, program=CAT, **words):
-        return self.sandbox(program, **words).built("list", "copy", "ask")
+        return self.sandbox(program, **words).built("list", "copy", "mend", "ask")
 
 
 class Words(Door):
@@ -29,7 +29,7 @@ class Words(Door):
         self.assertEqual((status, said), (0, ""))
         for words in (["--help"], ["-h"], ["list", "--help"], ["wrong", "-h"]):
             self.assertEqual(box.run(*words, kit=False), (0, page, ""), words)
-        commands = ("list", "copy", "settings", "ask", "compare", "rust", "bench", "wrong", "test")
+        commands = ("list", "copy", "mend", "settings", "ask", "compare", "rust", "bench", "wrong", "test")
         for command in (*commands, "help"):
             self.assertIn(f"\n./ptp {command}", "\n" + page)
         for command in commands:
@@ -63,14 +63,15 @@ class Words(Door):
         self.refused(box, ["settings", there, "second"], "second")
         self.refused(box, ["settings", "missing.settings"], "missing.settings")
         self.refused(box, ["copy"], "IN and OUT")
-        self.refused(box, ["copy", there], "IN and OUT")
-        self.refused(box, ["copy", there, "made", "more"], "IN and OUT")
-        self.refused(box, ["copy", "--check", there], "--check")
-        self.refused(box, ["copy", "missing.recording", "made"], "missing.recording")
-        self.refused(box, ["copy", there, box.home], str(box.home))
-        self.refused(box, ["copy", there, "missing/made"], "missing")
-        self.refused(box, ["copy", there, there], "one file")
-        self.refused(box, ["copy", there, box.home / "crates" / ".." / "crates.txt"], "one file")
+        for command in ("copy", "mend"):
+            self.refused(box, [command, there], "IN and OUT")
+            self.refused(box, [command, there, "made", "more"], "IN and OUT")
+            self.refused(box, [command, "--check", there], "--check")
+            self.refused(box, [command, "missing.recording", "made"], "missing.recording")
+            self.refused(box, [command, there, box.home], str(box.home))
+            self.refused(box, [command, there, "missing/made"], "missing")
+            self.refused(box, [command, there, there], "one file")
+            self.refused(box, [command, there, box.home / "crates" / ".." / "crates.txt"], "one file")
         self.refused(box, ["rust", "word"], "word")
         self.refused(box, ["test", "word"], "word")
         self.refused(box, ["compare", "1", "many"], "many")
@@ -91,31 +92,55 @@ class Words(Door):
         self.assertEqual(box.run("list", "a file", cwd="/"), (2, "", "ptp: there is no file a file\n"))
 
 
-class Copies(Door):
-    REPORT = "left out 2 records 13 bytes\n"
+class Made(Door):
+    """What copy and mend make of one file in another's place."""
+    REPORTS = {"copy": "left out 2 records 13 bytes\n", "mend": "7 dropped 3\nkept 2 records 25 bytes, dropped 1 stretches 3 bytes\n"}
 
-    def copied(self, said, *made, status=0):
+    def made(self, command, said, *before, status=0):
         """What is left of a file that is there, or is not, after a program that copies its input and says this."""
         box = self.built(f"#!/bin/sh\ncat\nprintf '%s' '{said}' >&2\nexit {status}\n")
         (box.folder / "given").write_bytes(b"records")
-        for data in made:
+        for data in before:
             (box.folder / "made").write_bytes(data)
-        answer = box.run("copy", "given", "made")
+        answer = box.run(command, "given", "made")
         left = sorted(path.name for path in box.folder.iterdir() if path.is_file())
         return answer, left, (box.folder / "made").read_bytes() if "made" in left else None
 
-    def test_a_copy_is_moved_to_its_place(self):
-        for made in ((), (b"before",)):
-            self.assertEqual(self.copied(self.REPORT, *made), ((0, "", self.REPORT), ["given", "made"], b"records"))
+    def test_what_is_made_is_moved_to_its_place(self):
+        for command, report in self.REPORTS.items():
+            for before in ((), (b"before",)):
+                self.assertEqual(self.made(command, report, *before), ((0, "", report), ["given", "made"], b"records"))
 
-    def test_a_refused_recording_leaves_all_as_it_was(self):
-        for said in ("7 refusal 1 10\n", "copy: writing standard output: it broke\n"):
-            self.assertEqual(self.copied(said), ((1, "", said), ["given"], None))
-            self.assertEqual(self.copied(said, b"before"), ((1, "", said), ["given", "made"], b"before"))
+    def test_what_is_refused_or_fails_leaves_all_as_it_was(self):
+        for command in self.REPORTS:
+            for said in ("7 refusal 1 10\n", "7 dropped 3\n", f"{command}: writing standard output: it broke\n"):
+                self.assertEqual(self.made(command, said), ((1, "", said), ["given"], None))
+                self.assertEqual(self.made(command, said, b"before"), ((1, "", said), ["given", "made"], b"before"))
 
-    def test_a_program_that_says_nothing_or_fails_has_copied_nothing(self):
-        self.assertEqual(self.copied("", b"before"), ((1, "", ""), ["given", "made"], b"before"))
-        self.assertEqual(self.copied(self.REPORT, b"before", status=3), ((1, "", self.REPORT), ["given", "made"], b"before"))
+    def test_a_program_that_says_nothing_or_fails_has_made_nothing(self):
+        for command, report in self.REPORTS.items():
+            self.assertEqual(self.made(command, "", b"before"), ((1, "", ""), ["given", "made"], b"before"))
+            told = f"{report}ptp: {command} ended with 3\n"
+            self.assertEqual(self.made(command, report, b"before", status=3), ((1, "", told), ["given", "made"], b"before"))
+
+    def test_one_report_is_not_the_others(self):
+        self.assertEqual(self.made("copy", self.REPORTS["mend"], b"before")[2], b"before")
+        self.assertEqual(self.made("mend", self.REPORTS["copy"], b"before")[2], b"before")
+
+    def test_mending_from_standard_input_to_standard_output(self):
+        report = self.REPORTS["mend"]
+        box = self.built(f"#!/bin/sh\ncat\nprintf '%s' '{report}' >&2\n")
+        self.assertEqual(box.run("mend", input=b"piped"), (0, "piped", report))
+        box = self.built("#!/bin/sh\ncat\necho 'mend: it broke' >&2\n")
+        self.assertEqual(box.run("mend", input=b"piped"), (1, "piped", "mend: it broke\n"))
+        for closed, named in (("<&-", "standard input"), (">&- </dev/null", "standard output")):
+            self.assertEqual(result(["sh", "-c", f"{box.home}/ptp mend {closed}"]), (1, "", f"ptp: {named} is closed\n"))
+
+    def test_a_reader_that_has_gone_ends_mending_quietly(self):
+        box = self.built("#!/bin/sh\nwhile :; do echo a line; done\n")
+        script = f"{{ {box.home}/ptp mend; echo $? >status; }} | head -n 1"
+        self.assertEqual(result(["sh", "-c", script], cwd=box.folder), (0, "a line\n", ""))
+        self.assertEqual((box.folder / "status").read_text(), "1\n")
 
 
 class Rows(Door):

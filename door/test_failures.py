@@ -95,6 +95,15 @@ class Failures(unittest.TestCase):
         status, _, said = ended(running)
         self.failed(status, out, said, "Input/output error")
 
+    def test_mending_that_fails_says_so_and_does_not_count(self):
+        folder = os.open(EXAMPLES, os.O_RDONLY | os.O_DIRECTORY)
+        self.addCleanup(os.close, folder)
+        with open("/dev/full", "wb") as full, DAY.open("rb") as day:
+            for given, out, why in ((folder, subprocess.DEVNULL, "Is a directory"), (day, full, "No space left on device")):
+                ended = subprocess.run([PTP, "mend"], stdin=given, stdout=out, stderr=subprocess.PIPE, timeout=60)
+                self.assertEqual(ended.returncode, 1)
+                self.assertRegex(ended.stderr.decode(), rf"{why}[^\n]*\n\Z")
+
     def long_recording(self):
         """Notes, more than any buffer holds, as an open file."""
         file = tempfile.TemporaryFile()

@@ -47,6 +47,23 @@ class Programs(unittest.TestCase):
         for path in sorted(EXAMPLES.glob("*.recording")):
             self.assertTrue(cuts.copies_well([PTP, "copy"], path.read_bytes()), path)
 
+    def test_every_example_is_mended(self):
+        """As the model says; of a damaged one what stands beside it. What is written is listed to its end."""
+        for path in sorted(EXAMPLES.glob("*.recording")):
+            self.assertTrue(cuts.mends_well([PTP, "mend"], path.read_bytes()), path)
+        for path in sorted(EXAMPLES.glob("*.mended")):
+            damaged = path.with_suffix(".recording").read_bytes()
+            mended, report = path.read_bytes(), path.with_suffix(".report").read_bytes()
+            run = subprocess.run([PTP, "mend"], input=damaged, stdout=subprocess.PIPE, stderr=subprocess.PIPE, timeout=60)
+            self.assertEqual((run.returncode, run.stdout, run.stderr), (0, mended, report), path)
+            self.assertEqual(result([PTP, "list", "--check"], input=mended)[::2], (0, ""), path)
+
+    def test_a_sound_recording_is_mended_to_itself(self):
+        day = (EXAMPLES / "day.recording").read_bytes()
+        run = subprocess.run([PTP, "mend"], input=day, stdout=subprocess.PIPE, stderr=subprocess.PIPE, timeout=60)
+        report = f"kept 47 records {len(day)} bytes, dropped 0 stretches 0 bytes\n".encode()
+        self.assertEqual((run.returncode, run.stdout, run.stderr), (0, day, report))
+
     def test_every_row_of_settings_is_shown(self):
         found = sorted(EXAMPLES.glob("*.settings"))
         self.assertTrue(found)

@@ -1,14 +1,16 @@
-"""Judges a program that lists or copies recordings, by the model: the examples, cut and damaged recordings, and long ones.
+"""Judges a program that lists, copies or mends recordings, by the model: the examples, cut and damaged recordings, and long ones.
 
-    python3 -m examples.cuts [--seed SEED] [--copy] COMMAND ..
+    python3 -m examples.cuts [--seed SEED] [--copy | --mend] COMMAND ..
 
-COMMAND reads a recording from standard input and writes its listing; with --copy it takes two files more, a recording and
-where its copy goes, and its report is judged too, and that a refused recording leaves the second file as it was. It is given every example of this folder, a small
-recording cut at every byte, a thousand damaged ones, and some that are longer than any buffer. Each difference is
-printed, and last `COUNT compared, N differ`.
+COMMAND reads a recording from standard input and writes its listing. With --copy and --mend it takes two files more, a recording and
+where its copy goes, or what is mended of it; its report is judged too, and that a recording whose copy is refused leaves the second file
+as it was. It is given every example of this folder, a small recording cut at every byte, a thousand damaged ones, some that are longer
+than any buffer, and some that are damaged around the edge of what is read at once. Each difference is printed, and last
+`COUNT compared, N differ`.
 """
 
 import argparse
+import itertools
 import pathlib
 import random
 import subprocess
@@ -17,7 +19,8 @@ import tempfile
 
 from compare.bits import damaged
 from compare.cases_recording import random_record, record, small_recording, whole
-from model import listing
+from examples.judge import judged
+from model import listing, mending
 from model.recording import MOST_BODY, copied, read_record
 from model.refusals import Refused
 
@@ -25,7 +28,11 @@ FOLDER = pathlib.Path(__file__).resolve().parent
 DAMAGED = 1000
 LONG_BYTES = 3_000_000
 SHOWN = 200
-# What stands in the second file before a copy.
+# So many bytes are read at once.
+WINDOW = 65536
+# In each so many bytes of a long recording one is changed.
+DAMAGED_EACH = 4096
+# What stands in the second file before.
 BEFORE = b"as it was"
 
 
@@ -79,7 +86,7 @@ def long_ones(rng):
 
 
 def short_ones(size):
-    """Notes of so many bytes in all."""
+    """Notes of so many bytes in all, none or at least six."""
     return record(3, bytes(size % 6)) + record(3, b"") * (size // 6 - 1) if size else b""
 
 
@@ -91,6 +98,25 @@ def longest(rng):
             yield by_model(f"longest behind {front}, {name}", changed)
 
 
+def long_damaged_ones(rng):
+    """Long recordings with one byte changed in each few thousand, and one of bytes at random between records."""
+    for name, make in (("all sizes", long_record), ("short", random_record)):
+        data = bytearray(long_recording(rng, make)[:LONG_BYTES // 4])
+        for at in range(0, len(data) - DAMAGED_EACH, DAMAGED_EACH):
+            data[at + rng.randrange(DAMAGED_EACH)] ^= 1 << rng.randrange(8)
+        yield by_model(f"long, {name}, damaged", bytes(data))
+    yield by_model("long, between records", record(3, b"A") + rng.randbytes(3 * WINDOW) + record(3, b"B") + b"\xff" * (WINDOW + 3) + record(3, b"C"))
+
+
+def edges(rng):
+    """Damage up to, across and behind the edge of a window, before a short record and the longest; and a record that the damage hides."""
+    for front, size in itertools.product([0, 6, *range(WINDOW - 12, WINDOW + 7, 3), WINDOW - MOST_BODY - 6], (1, 5, 6, 7, 300)):
+        for name, rest in (("short", record(3, b"note")), ("longest", record(3, bytes([3]) * MOST_BODY)), ("cut", record(3, bytes(9))[:-1])):
+            yield by_model(f"{size} damaged behind {front}, {name}", short_ones(front) + b"\xff" * size + rest)
+    for front in range(WINDOW - 20, WINDOW + 3):
+        yield by_model(f"no record behind {front}", short_ones(front) + record(9, record(3, b"note")) + record(3, b""))
+
+
 def all_cases(seed):
     rng = random.Random(seed)
     yield from examples()
@@ -98,6 +124,8 @@ def all_cases(seed):
     yield from damaged_ones(rng)
     yield from long_ones(rng)
     yield from longest(rng)
+    yield from long_damaged_ones(rng)
+    yield from edges(rng)
 
 
 def first_refusal(data):
@@ -119,14 +147,28 @@ def copy_due(data):
     return 0, made.data, f"left out {made.records} records {made.left} bytes\n"
 
 
-def copies_well(command, data):
+def mend_due(data):
+    mended = mending.mend(data)
+    return 0, mended.data, mending.report(mended)
+
+
+def makes_well(command, data, due):
+    """By status, second file and report; nothing else is said or left behind."""
     with tempfile.TemporaryDirectory() as folder:
         given, made = pathlib.Path(folder) / "given", pathlib.Path(folder) / "made"
         given.write_bytes(data)
         made.write_bytes(BEFORE)
         run = subprocess.run([*command, given, made], stdout=subprocess.PIPE, stderr=subprocess.PIPE)
         found = run.returncode, made.read_bytes(), run.stderr.decode("latin-1")
-        return found == copy_due(data) and not run.stdout and len(list(pathlib.Path(folder).iterdir())) == 2
+        return found == due and not run.stdout and len(list(pathlib.Path(folder).iterdir())) == 2
+
+
+def copies_well(command, data):
+    return makes_well(command, data, copy_due(data))
+
+
+def mends_well(command, data):
+    return makes_well(command, data, mend_due(data))
 
 
 def lists_well(command, data, expected):
@@ -134,22 +176,28 @@ def lists_well(command, data, expected):
     return run.returncode == 0 and run.stdout.decode("latin-1") == expected
 
 
+def differences(given):
+    for name, data, expected in all_cases(given.seed):
+        if given.copy:
+            well = copies_well(given.command, data)
+        elif given.mend:
+            well = mends_well(given.command, data)
+        else:
+            well = lists_well(given.command, data, expected)
+        yield None if well else f"{name}, {data[:SHOWN].hex()}"
+
+
 def main():
-    parser = argparse.ArgumentParser(description="judge a program that lists or copies recordings")
+    parser = argparse.ArgumentParser(description="judge a program that lists, copies or mends recordings")
     parser.add_argument("--seed", default="1")
-    parser.add_argument("--copy", action="store_true")
+    kind = parser.add_mutually_exclusive_group()
+    kind.add_argument("--copy", action="store_true")
+    kind.add_argument("--mend", action="store_true")
     parser.add_argument("command", nargs=argparse.REMAINDER)
     given = parser.parse_args()
     if not given.command:
         parser.error("no command given")
-    count = differ = 0
-    for name, data, expected in all_cases(given.seed):
-        count += 1
-        if not (copies_well(given.command, data) if given.copy else lists_well(given.command, data, expected)):
-            differ += 1
-            print(f"differs: {name}, {data[:SHOWN].hex()}")
-    print(f"{count} compared, {differ} differ")
-    return 1 if differ else 0
+    return judged(differences(given))
 
 
 if __name__ == "__main__":

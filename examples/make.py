@@ -1,17 +1,22 @@
 """Makes the recordings of this folder, and their listings, from the descriptions beside it (*.txt); and the rows of settings, and their texts.
 
-    python3 -m examples.make            writes NAME.recording and NAME.listing for each `recording NAME`, NAME.settings and NAME.shown for
-                                        each `settings NAME`
+    python3 -m examples.make            writes NAME.recording and NAME.listing for each `recording NAME`, of a damaged one also NAME.mended and
+                                        NAME.report; NAME.settings and NAME.shown for each `settings NAME`
     python3 -m examples.make --check    writes nothing, and fails where a file is not what its description says
 
-A listing's lines, and a text's, are made from the description, line by line, not by reading the bytes. Then the model, which
+A listing's lines, a report's and a text's are made from the description, line by line, not by reading the bytes. Then the model, which
 reads the bytes, must give the same. No code of the crates takes part.
 
 A recording's lines, each one record (a line that begins with a space goes on with the one before, # begins a comment):
 
     out|in KIND CODE NUMBER FIELD ..    a container, sent or received; CODE is a name, or 0x and four digits
     note "TEXT"  or  note FIELD ..      an operator's note, of a recording that is old
-    raw FIELD .. refusal NO [AT]        bytes that are refused with this number and place; `refusal -`: not reached any more
+    raw FIELD .. refusal NO [AT] [kept PLACE:BYTES]
+                                        bytes that are refused with this number and place; `refusal -`: not reached any more. Mending keeps
+                                        so many of them from that place in them on, or none
+    lost NAME PLACE:BYTES .. listed COUNT refusal NO [AT] dropped PLACE:BYTES ..
+                                        all of the recording NAME but these bytes; so many records are listed, and of what is left mending
+                                        drops these bytes
 
 A row's lines, each one entry:
 
@@ -27,7 +32,7 @@ import shlex
 import sys
 from collections import namedtuple
 
-from model import listing, names, settings
+from model import listing, mending, names, settings
 from model.ask import show, show_entry
 from model.values import Text
 
@@ -39,8 +44,8 @@ FIELD = re.compile(r"(?:\w+=)?(u8|u16|u32|u64|string|array16|array32|hex|zeros):
 
 SETTINGS_HEADING = "place kind vendor property serial type value\n"
 
-# A line of a description made: the bytes of the record or the entry, its line after the place, and whether it is whole.
-Made = namedtuple("Made", "data text whole")
+# A line of a description made: the bytes of the record or the entry, its line after the place, whether it is whole, and what mending drops.
+Made = namedtuple("Made", "data text whole dropped")
 
 
 def little(number, width):
@@ -105,18 +110,43 @@ def record(kind, body):
 def container_line(way, kind, code, number, *words):
     payload = fields(words)
     head = little(12 + len(payload), 4) + little(KINDS[kind], 2) + little(code_of(kind, code), 2) + little(int(number), 4)
-    return Made(record(WAYS[way], head + payload), f"{way} {kind} {code} {number} {len(payload)}", True)
+    return Made(record(WAYS[way], head + payload), f"{way} {kind} {code} {number} {len(payload)}", True, [])
 
 
 def note_line(_, *words):
     is_text = len(words) == 1 and not FIELD.fullmatch(words[0])
     body = words[0].encode("utf-8") if is_text else fields(words)
-    return Made(record(NOTE, body), f"old-note {len(body)}", True)
+    return Made(record(NOTE, body), f"old-note {len(body)}", True, [])
+
+
+def spans(words):
+    """PLACE:BYTES, each."""
+    return [tuple(map(int, word.split(":"))) for word in words]
+
+
+def split_at(words, *marks):
+    """What stands before each mark and after the last; a mark that is not there has nothing after it."""
+    found = []
+    for mark in marks:
+        at = words.index(mark) if mark in words else len(words)
+        found.append(words[:at])
+        words = words[at + 1:]
+    return [*found, words]
+
+
+def without(data, lost):
+    """The bytes but these."""
+    for place, size in sorted(lost, reverse=True):
+        data = data[:place] + data[place + size:]
+    return data
 
 
 def raw_line(_, *words):
-    at = words.index("refusal")
-    return Made(fields(words[:at]), None if words[at + 1] == "-" else " ".join(words[at:]), False)
+    made, refusal, kept = split_at(words, "refusal", "kept")
+    data = fields(made)
+    place, size = spans(kept)[0] if kept else (len(data), 0)
+    dropped = [span for span in ((0, place), (place + size, len(data) - place - size)) if span[1]]
+    return Made(data, None if refusal == ("-",) else " ".join(("refusal", *refusal)), False, dropped)
 
 
 def value_shown(words):
@@ -132,7 +162,7 @@ def entry(kind, vendor, code, serial, value_type, words):
     numbers = int(vendor, 0), int(code, 0), int(value_type, 0)
     rest = little(numbers[0], 4) + little(numbers[1], 2) + serial[0] + little(numbers[2], 2) + fields(words)
     text = f"{kind} {numbers[0]} {numbers[1]} {serial[1]} {numbers[2]} {value_shown(words)}"
-    return Made(little(6 + len(rest), 4) + little(kind, 2) + rest, text, True)
+    return Made(little(6 + len(rest), 4) + little(kind, 2) + rest, text, True, [])
 
 
 def any_line(_, vendor, code, value_type, *words):
@@ -159,16 +189,21 @@ def joined_lines(text):
     return lines
 
 
-def described(text, kind):
-    """The name of each recording, or each row of settings, and its lines, made."""
+def described():
+    """The lines of each recording and of each row of settings, by its name."""
     found = {"recording": {}, "settings": {}}
-    for line in joined_lines(text):
-        words = shlex.split(line)
-        if words[0] in found:
-            made = found[words[0]][words[1]] = []
-        else:
-            made.append(LINES[words[0]](*words))
-    return found[kind]
+    for description in sorted(FOLDER.glob("*.txt")):
+        for line in joined_lines(description.read_text(encoding="utf-8")):
+            words = shlex.split(line)
+            if words[0] in found:
+                lines = found[words[0]][words[1]] = []
+            else:
+                lines.append(words)
+    return found
+
+
+def made_of(lines):
+    return [LINES[words[0]](*words) for words in lines]
 
 
 def listing_of(lines):
@@ -181,6 +216,34 @@ def listing_of(lines):
         place += len(made.data)
         count += 1
     return f"{text}records {count} bytes {place}\n"
+
+
+def dropped_of(lines):
+    """What mending drops of all lines, stretches that touch joined."""
+    dropped, place = [], 0
+    for made in lines:
+        for start, size in made.dropped:
+            if dropped and sum(dropped[-1]) == place + start:
+                dropped[-1] = dropped[-1][0], dropped[-1][1] + size
+            else:
+                dropped.append((place + start, size))
+        place += len(made.data)
+    return dropped
+
+
+def lost_from(lines, _, *words):
+    """A recording of these lines without the bytes that are lost: its bytes, its listing, and what mending drops."""
+    lost, count, refusal, dropped = split_at(words, "listed", "refusal", "dropped")
+    listed = lines[:int(count[0])] + [Made(b"", " ".join(("refusal", *refusal)), False, [])]
+    return without(b"".join(made.data for made in lines), spans(lost)), listing_of(listed), spans(dropped)
+
+
+def recording_of(lines, recordings):
+    """The bytes, the listing, and what mending drops."""
+    if lines[0][0] == "lost":
+        return lost_from(made_of(recordings[lines[0][1]]), *lines[0][1:])
+    made = made_of(lines)
+    return b"".join(one.data for one in made), listing_of(made), dropped_of(made)
 
 
 def shown_of(lines):
@@ -199,38 +262,42 @@ def shown_by_model(row):
     return SETTINGS_HEADING + "".join(" ".join(map(str, each)) + "\n" for each in words) + f"entries {len(entries)} bytes {len(row)}\n"
 
 
-def row_outputs(text):
-    for name, lines in described(text, "settings").items():
-        data, shown = b"".join(made.data for made in lines), shown_of(lines)
-        if shown_by_model(data) != shown:
-            sys.exit(f"examples: the model shows {name} otherwise than its description says")
-        yield FOLDER / f"{name}.settings", data
-        yield FOLDER / f"{name}.shown", shown.encode("ascii")
+def row_outputs(name, lines):
+    made = made_of(lines)
+    data, shown = b"".join(one.data for one in made), shown_of(made)
+    if shown_by_model(data) != shown:
+        sys.exit(f"examples: the model shows {name} otherwise than its description says")
+    yield f"{name}.settings", data
+    yield f"{name}.shown", shown.encode("ascii")
 
 
-def recording_outputs(text):
-    for name, lines in described(text, "recording").items():
-        data, listed = b"".join(made.data for made in lines), listing_of(lines)
-        if listing.listing(data) != listed:
-            sys.exit(f"examples: the model lists {name} otherwise than its description says")
-        yield FOLDER / f"{name}.recording", data
-        yield FOLDER / f"{name}.listing", listed.encode("ascii")
+def recording_outputs(name, lines, recordings):
+    data, listed, dropped = recording_of(lines, recordings)
+    mended = mending.mend(data)
+    if listing.listing(data) != listed or mended.dropped != dropped or mended.data != without(data, dropped):
+        sys.exit(f"examples: the model lists or mends {name} otherwise than its description says")
+    yield f"{name}.recording", data
+    yield f"{name}.listing", listed.encode("ascii")
+    if dropped:
+        yield f"{name}.mended", mended.data
+        yield f"{name}.report", mending.report(mended).encode("ascii")
 
 
 def outputs():
     """Each file's path and bytes."""
-    for description in sorted(FOLDER.glob("*.txt")):
-        text = description.read_text(encoding="utf-8")
-        yield from recording_outputs(text)
-        yield from row_outputs(text)
+    found = described()
+    for name, lines in found["recording"].items():
+        yield from recording_outputs(name, lines, found["recording"])
+    for name, lines in found["settings"].items():
+        yield from row_outputs(name, lines)
 
 
 def main():
     if sys.argv[1:] == ["--check"]:
-        stale = [path.name for path, data in outputs() if not path.exists() or path.read_bytes() != data]
+        stale = [name for name, data in outputs() if not (FOLDER / name).exists() or (FOLDER / name).read_bytes() != data]
         sys.exit(f"examples: not as described: {' '.join(stale)}" if stale else 0)
-    for path, data in outputs():
-        path.write_bytes(data)
+    for name, data in outputs():
+        (FOLDER / name).write_bytes(data)
 
 
 if __name__ == "__main__":

@@ -1,8 +1,8 @@
-"""Judges a program that lists recordings, by the model, on recordings of several windows and on input that comes in pieces.
+"""Judges a program that lists or mends recordings, by the model, on recordings of several windows and on input that comes in pieces.
 
-    python3 -m examples.pieces COMMAND ..
+    python3 -m examples.pieces [--mend] COMMAND ..
 
-COMMAND reads a recording from standard input and writes its listing. It is given recordings that are longer than its
+COMMAND reads a recording from standard input and writes its listing; with --mend what is mended of it, and its report. It is given recordings that are longer than its
 window, with records across the edge of what is read at once: as a file, and through a pipe in pieces of 1, 2, 3, 100
 and 65,535 bytes. Each piece is written once the program has taken the one before and waits for more. Each difference is
 printed, and last `COUNT compared, N differ`.
@@ -17,8 +17,9 @@ import tempfile
 import termios
 import time
 
+from examples.judge import judged
 from examples.make import container_line, record
-from model import listing
+from model import listing, mending
 from model.recording import MOST_BODY, NOTE, RECORD_HEADER
 
 WINDOW = 65536
@@ -126,25 +127,38 @@ def ended(status, out, told):
     return status, out.read().decode("latin-1"), told.read().decode("latin-1")
 
 
-def answers(command):
-    """Each case's name, the answer and what the model lists."""
+def listing_due(data):
+    """Status, output and what is said."""
+    return 0, listing.listing(data), ""
+
+
+def mending_due(data):
+    mended = mending.mend(data)
+    return 0, mended.data.decode("latin-1"), mending.report(mended)
+
+
+def answers(command, due):
+    """Each case's name, the answer and what the model says."""
     for name, data in recordings():
-        yield name, run_on_file(command, data), listing.listing(data)
+        yield name, run_on_file(command, data), due(data)
     for name, data, pieces in in_pieces():
-        yield name, run_in_pieces(command, pieces), listing.listing(data)
+        yield name, run_in_pieces(command, pieces), due(data)
+
+
+def differences(command, due):
+    for name, answer, expected in answers(command, due):
+        status, text, told = answer
+        yield None if answer == expected else (
+            f"{name}, status {status}, {len(text)} bytes for {len(expected[1])}, ends {text[-SHOWN:]!r}, says {told[:SHOWN]!r}")
 
 
 def main():
-    if len(sys.argv) < 2:
+    words = sys.argv[1:]
+    due = mending_due if words[:1] == ["--mend"] else listing_due
+    command = words[1:] if due is mending_due else words
+    if not command:
         sys.exit(__doc__)
-    count = differ = 0
-    for name, (status, text, told), expected in answers(sys.argv[1:]):
-        count += 1
-        if (status, text, told) != (0, expected, ""):
-            differ += 1
-            print(f"differs: {name}, status {status}, {len(text)} bytes for {len(expected)}, ends {text[-SHOWN:]!r}, says {told[:SHOWN]!r}")
-    print(f"{count} compared, {differ} differ")
-    return 1 if differ else 0
+    return judged(differences(command, due))
 
 
 if __name__ == "__main__":

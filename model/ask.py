@@ -4,10 +4,11 @@
 """
 
 import binascii
+import itertools
 import re
 import sys
 
-from model import containers, datasets, listing, names, panel, recording, session, settings, tree, values
+from model import containers, datasets, listing, mending, names, panel, recording, session, settings, tree, values
 from model.refusals import ROOM, Refused, refuse_if
 
 LONGEST_LINE = 1_200_000
@@ -53,6 +54,13 @@ def u64(word):
 def room(word):
     size = u64(word)
     if size > MOST_ROOM:
+        raise Malformed
+    return size
+
+
+def report(word):
+    size = u64(word)
+    if size > LONGEST_LIST:
         raise Malformed
     return size
 
@@ -151,6 +159,12 @@ def show_bytes(data):
 
 def show_list(row):
     return ",".join(map(str, row)) or "-"
+
+
+def show_runs(row):
+    """As a list, but two or more equal neighbours as N*TIMES."""
+    runs = ((number, len(list(equal))) for number, equal in itertools.groupby(row))
+    return show_list(str(number) if times == 1 else f"{number}*{times}" for number, times in runs)
 
 
 def ok(*words):
@@ -388,6 +402,16 @@ def copy(data, size):
     return ok(len(made.data), laid_out(size, made.data), made.records, made.left)
 
 
+def mend(data, size, most):
+    """The writer's answer, then the two lists of the report, whole, filled before as the output is."""
+    mended, filling = mending.mend(data), int.from_bytes(bytes([FILLING]) * 8, "little")
+    if len(mended.data) > size or len(mended.dropped) > most:
+        return " ".join([f"no {ROOM} {laid_out(size, b'')}"] + 2 * [show_runs(most * [filling])])
+    spare = (most - len(mended.dropped)) * [filling]
+    lists = [[getattr(stretch, part) for stretch in mended.dropped] + spare for part in ("start", "length")]
+    return ok(len(mended.data), laid_out(size, mended.data), len(mended.dropped), *map(show_runs, lists))
+
+
 def whole_listing(data):
     return ok(listing.listing(data).replace("\n", "\\n"))
 
@@ -442,6 +466,7 @@ QUESTIONS = {
     "record": ((hex_bytes,), record),
     "write-record": ((u16, hex_bytes, room), write_record),
     "copy": ((hex_bytes, room), copy),
+    "mend": ((hex_bytes, room, report), mend),
     "listing": ((hex_bytes,), whole_listing),
 }
 

@@ -32,6 +32,7 @@ HELD, OTHER = for_any(6, 0, 0, b"").hex(), for_any(7, 0, 0, b"").hex()
 UNTIDY_OTHER = for_any(7, 0, 0xFFFF, b"\x01\x00\x00").hex()
 STORAGE_NUMBERS = "00" * 26
 OK_7 = "0c0000000300012007000000"
+A5_WORD = 0xA5A5A5A5A5A5A5A5
 EVENT_7 = "0c0000000400012007000000"
 
 ORDERS = {
@@ -414,6 +415,19 @@ ORDERS = {
         ("copy 060000000300 1", "ok 0 a5 1 6"),
         ("copy - 0", "ok 0 - 0 0"),
     ],
+    "a recording is mended: 9 for either output, and no other refusal": [
+        (f"mend ff120000000100{OK_7}ff 17 2", f"no 9 {'a5' * 17} {A5_WORD}*2 {A5_WORD}*2"),
+        (f"mend ff120000000100{OK_7}ff 18 1", f"no 9 {'a5' * 18} {A5_WORD} {A5_WORD}"),
+        (f"mend ff120000000100{OK_7}ff 0 0", "no 9 - - -"),
+        (f"mend ff120000000100{OK_7}ff 18 2", f"ok 18 120000000100{OK_7} 2 0,19 1*2"),
+        ("mend 000000000000 1 3", f"ok 0 a5 1 0,{A5_WORD}*2 6,{A5_WORD}*2"),
+        ("mend 07000000030041050000000300 7 1", "ok 7 07000000030041 1 7 6"),
+        ("mend 07000000030041070000000400410600000003000700000003 13 2", "ok 13 07000000030041060000000300 2 7,20 7,5"),
+        (f"mend 130000000100{OK_7}00 12 2", f"ok 12 {OK_7} 2 0,18 6,1"),
+        (f"mend 130000000100{OK_7[:4]}0700000003004100 7 2", "ok 7 07000000030041 2 0,15 8,1"),
+        ("mend ff 0 0", "no 9 - - -"),
+        ("mend ff 0 4096", f"ok 0 - 1 0,{A5_WORD}*4095 1,{A5_WORD}*4095"),
+    ],
     "65,000 and 65,001": [
         ("record eefd00000300", "no 1 6"),
         ("record effd00000300", "no 14"),
@@ -421,6 +435,8 @@ ORDERS = {
         (f"record effd00000300{'00' * 65001}", "no 14"),
         (f"write-record 1 e8fd00000200091007000000{'00' * 64988} 65006", "ok 65006"),
         (f"write-record 1 e9fd00000200091007000000{'00' * 64989} 0", "no 14 -"),
+        (f"mend eefd00000300{'01' * 65000} 65006 0", "ok 65006"),
+        (f"mend effd00000300{'01' * 65001} 0 1", "ok 0 - 1 0 65007"),
         (f"listing 072000000300{'00' * 8193}", "ok place way kind code tid bytes\\n0 old-note 8193\\nrecords 1 bytes 8199\\n"),
     ],
 }

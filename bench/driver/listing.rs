@@ -1,5 +1,5 @@
 
-// The listing and the copy of a large recording, of short records and of long ones.
+// The listing, the copy and the mending of a large recording, of short records and of long ones; and the mending of a damaged one.
 
 mod listing {
     use super::*;
@@ -12,6 +12,8 @@ mod listing {
 
     const RECORDING: usize = 64_000_000;
     const LISTINGS: usize = 7;
+    /// In each so many bytes of a damaged recording one is changed.
+    const DAMAGED_EACH: usize = 4096;
 
     fn record(kind: u16, body: &[u8]) -> Vec<u8> {
         [u32s(&[6 + body.len() as u32]), u16s(&[kind]), body.to_vec()].concat()
@@ -49,25 +51,50 @@ mod listing {
         nanoseconds(began)
     }
 
-    fn measured(lists: &str, copies: &str, path: &str, few: &[Vec<u8>], what: &str) {
-        let count = write_recording(path, few).expect("the recording is written");
-        let size = fs::metadata(path).expect("the recording").len() as f64;
-        let mut list = vec![];
-        let mut copy = vec![];
-        let mut cat = vec![];
-        for _ in 0..LISTINGS {
-            list.push(run_time(lists, path));
-            copy.push(run_time(copies, path));
-            cat.push(run_time("cat", path));
-        }
-        println!();
-        println!("A recording of {:.0} MB in {} {}, to /dev/null, medians of {} runs: our listing {:.0} MB/s, our copy {:.0} MB/s, `cat` {:.0} MB/s.",
-                 size / 1e6, count, what, LISTINGS, size / median(list) * 1e3, size / median(copy) * 1e3, size / median(cat) * 1e3);
+    /// Our programs by their paths.
+    pub struct Programs<'a> {
+        pub lists: &'a str,
+        pub copies: &'a str,
+        pub mends: &'a str,
     }
 
-    pub fn listing(lists: &str, copies: &str, path: &str) {
-        measured(lists, copies, path, &short_records(), "short records");
-        measured(lists, copies, path, &long_records(8192), "records with bodies of 8,192 bytes");
-        measured(lists, copies, path, &long_records(65_000), "records with bodies of 65,000 bytes");
+    /// Megabytes a second of each program in turn, medians.
+    fn speeds(programs: &[&str], path: &str) -> Vec<f64> {
+        let size = fs::metadata(path).expect("the recording").len() as f64;
+        let mut times = vec![vec![]; programs.len()];
+        for _ in 0..LISTINGS {
+            for (program, took) in programs.iter().zip(&mut times) {
+                took.push(run_time(program, path));
+            }
+        }
+        times.into_iter().map(|took| size / median(took) * 1e3).collect()
+    }
+
+    fn measured(ours: &Programs, path: &str, few: &[Vec<u8>], what: &str) {
+        let count = write_recording(path, few).expect("the recording is written");
+        let size = fs::metadata(path).expect("the recording").len() as f64;
+        let speed = speeds(&[ours.lists, ours.copies, ours.mends, "cat"], path);
+        println!();
+        println!("A recording of {:.0} MB in {} {}, to /dev/null, medians of {} runs: our listing {:.0} MB/s, our copy {:.0} MB/s, our mending {:.0} MB/s, `cat` {:.0} MB/s.",
+                 size / 1e6, count, what, LISTINGS, speed[0], speed[1], speed[2], speed[3]);
+    }
+
+    /// The recording that is there with one byte changed in each few thousand, at places that do not repeat soon.
+    fn damaged(ours: &Programs, path: &str) {
+        let mut data = fs::read(path).expect("the recording");
+        for at in (0..data.len() - DAMAGED_EACH).step_by(DAMAGED_EACH) {
+            data[at + at / DAMAGED_EACH * 1021 % DAMAGED_EACH] ^= 0x41;
+        }
+        fs::write(path, data).expect("the recording is written");
+        let speed = speeds(&[ours.mends, "cat"], path);
+        println!();
+        println!("The same with one byte changed in each {}: our mending {:.0} MB/s, `cat` {:.0} MB/s.", DAMAGED_EACH, speed[0], speed[1]);
+    }
+
+    pub fn listing(ours: &Programs, path: &str) {
+        measured(ours, path, &short_records(), "short records");
+        damaged(ours, path);
+        measured(ours, path, &long_records(8192), "records with bodies of 8,192 bytes");
+        measured(ours, path, &long_records(65_000), "records with bodies of 65,000 bytes");
     }
 }

@@ -1,7 +1,7 @@
 
 // The text of this folder is the project's: our exported functions beside the crate's own, on the same inputs, in one process.
 //
-//     bench LIST COPY RECORDING      LIST and COPY are our programs; RECORDING is written, listed, copied and left
+//     bench LIST COPY MEND RECORDING      LIST, COPY and MEND are our programs; RECORDING is written, listed, copied, mended and left
 //
 // Each line is tried first: both sides must agree. Then rounds of ours and theirs take turns.
 
@@ -17,7 +17,7 @@ fn main() {
     trees::trees();
     names::names();
     settings::settings();
-    if words.len() == 3 {
-        listing::listing(&words[0], &words[1], &words[2]);
+    if words.len() == 4 {
+        listing::listing(&listing::Programs { lists: &words[0], copies: &words[1], mends: &words[2] }, &words[3]);
     }
 }

@@ -24,6 +24,18 @@ extern "C" {
     fn ptp_prop_info(book: bool, s: *const u8, s_len: usize, out: *mut u64, out_len: usize) -> i64;
     fn ptp_read_record(s: *const u8, s_len: usize, out: *mut u64, out_len: usize) -> i64;
     fn ptp_copy_recording(s: *const u8, s_len: usize, out: *mut u8, out_len: usize, left: *mut u64, left_len: usize) -> i64;
+    fn ptp_mend_recording(
+        s: *const u8,
+        s_len: usize,
+        out: *mut u8,
+        out_len: usize,
+        starts: *mut u64,
+        starts_len: usize,
+        lengths: *mut u64,
+        lengths_len: usize,
+        counts: *mut u64,
+        counts_len: usize,
+    ) -> i64;
     fn ptp_list_value(book: bool, s: *const u8, s_len: usize, n: usize, out: *mut u64, out_len: usize) -> i64;
     fn ptp_newer_value(
         book: bool,
@@ -161,6 +173,26 @@ pub(crate) fn copy_recording(s: &[u8], out: &mut [u8]) -> Result<[usize; 3], Ref
     let mut left = [0; 2];
     let count = told(unsafe { ptp_copy_recording(s.as_ptr(), s.len(), out.as_mut_ptr(), out.len(), left.as_mut_ptr(), left.len()) })?;
     Ok([count, left[0] as usize, left[1] as usize])
+}
+
+// The bytes kept, and the stretches dropped.
+pub(crate) fn mend_recording(s: &[u8], out: &mut [u8], starts: &mut [u64], lengths: &mut [u64]) -> Result<(usize, usize), Refusal> {
+    let mut counts = [0; 1];
+    let count = told(unsafe {
+        ptp_mend_recording(
+            s.as_ptr(),
+            s.len(),
+            out.as_mut_ptr(),
+            out.len(),
+            starts.as_mut_ptr(),
+            starts.len(),
+            lengths.as_mut_ptr(),
+            lengths.len(),
+            counts.as_mut_ptr(),
+            counts.len(),
+        )
+    })?;
+    Ok((count, counts[0] as usize))
 }
 
 pub(crate) fn list_value(book: bool, s: &[u8], n: usize) -> Result<[u64; 3], Refusal> {
@@ -369,6 +401,19 @@ mod tests {
         assert_eq!(copied(&s[..24], 18, 0), (Err(Refusal::END { at: 13 }), [0xA5; 20], [KEPT; 3]));
         let (answer, out, left) = copied(&s, 20, 3);
         assert_eq!((answer, &out[..18], &out[18..], left), (Ok(18), &s[7..], &[0xA5; 2][..], [1, 7, KEPT]));
+}
+
+    // The room of the stretches' count, which mend_recording brings itself.
+    #[test]
+    fn mending_needs_room_for_its_count() {
+        let (mut out, mut starts, mut lengths, mut counts) = ([9; 8], [KEPT; 2], [KEPT; 2], [KEPT; 2]);
+        for (room, answer) in [(0, -9), (1, 6), (2, 6)] {
+            let s = [255, 6, 0, 0, 0, 3, 0];
+            let (out, starts, lengths) = (out.as_mut_ptr(), starts.as_mut_ptr(), lengths.as_mut_ptr());
+            let told = unsafe { ptp_mend_recording(s.as_ptr(), 7, out, 8, starts, 2, lengths, 2, counts.as_mut_ptr(), room) };
+            assert_eq!((told, counts), (answer, if room == 0 { [KEPT; 2] } else { [1, KEPT] }));
+        }
+        assert_eq!((out, starts, lengths), ([6, 0, 0, 0, 3, 0, 9, 9], [0, KEPT], [1, KEPT]));
     }
 
     #[test]

@@ -13,6 +13,7 @@
 mod archive;
 mod array;
 mod dataset;
+mod mending;
 mod property;
 mod record;
 mod refusal;
@@ -24,6 +25,7 @@ mod value;
 
 pub use array::{Items, PtpArray, PtpItem};
 pub use dataset::{PtpDeviceInfo, PtpObjectInfo, PtpStorageInfo};
+pub use mending::{mend_recording, Mended};
 pub use property::{newer_value, tidy_property, Newer, PropLayout, PtpFormData, PtpPropInfo, PtpValues, Values};
 pub use record::{copy_recording, read_record, Copied, PtpContainer, PtpContainerType, PtpRecord, RecordKind};
 pub use refusal::Refusal;

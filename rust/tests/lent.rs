@@ -1,6 +1,6 @@
 //! What is lent: a refusal leaves it as it was, the exact need suffices, and nothing past what was given is touched.
 use ptp_proved::{
-    newer_value, tidy_property, Newer, ObjectTable, PropLayout, PtpDataType, PtpFormData, PtpPropInfo, Refusal, Session,
+    mend_recording, newer_value, tidy_property, Newer, ObjectTable, PropLayout, PtpDataType, PtpFormData, PtpPropInfo, Refusal, Session,
 };
 
 const KEPT: u8 = 0xA5;
@@ -211,4 +211,31 @@ fn the_book_has_its_own_places() {
     let mut out = [KEPT; 16];
     assert_eq!(tidy_property(PropLayout::Book, &BOOK_RANGE, &mut out), Ok(&BOOK_RANGE[..]));
     assert_eq!(newer_value(PropLayout::Book, &BOOK_RANGE, &[75, 0]), Newer::Description(&[50]));
+}
+
+// A note of a byte between two bytes that are no record.
+const DAMAGED: [u8; 9] = *b"\xFF\x07\0\0\0\x03\0A\0";
+
+#[test]
+fn mending_needs_its_exact_room() {
+    for (room, starts_room, lengths_room) in [(6, 2, 2), (7, 1, 2), (7, 2, 1), (0, 0, 0)] {
+        let (mut out, mut starts, mut lengths) = ([KEPT; 9], [9; 3], [9; 3]);
+        let answer = mend_recording(&DAMAGED, &mut out[..room], &mut starts[..starts_room], &mut lengths[..lengths_room]);
+        assert_eq!(answer, Err(Refusal::ROOM));
+        assert_eq!((out, starts, lengths), ([KEPT; 9], [9; 3], [9; 3]));
+    }
+    for (room, report) in [(7, 2), (9, 3)] {
+        let (mut out, mut starts, mut lengths) = ([KEPT; 9], [9; 3], [9; 3]);
+        let mended = mend_recording(&DAMAGED, &mut out[..room], &mut starts[..report], &mut lengths[..report]).unwrap();
+        assert_eq!(mended.bytes, &DAMAGED[1..8]);
+        assert!(mended.dropped().eq([(0, 1), (8, 1)]));
+        assert_eq!((out[7..].iter().all(|&byte| byte == KEPT), starts[2], lengths[2]), (true, 9, 9));
+    }
+}
+
+#[test]
+fn a_sound_recording_is_mended_to_itself() {
+    let mut out = [KEPT; 7];
+    let mended = mend_recording(&DAMAGED[1..8], &mut out, &mut [], &mut []).unwrap();
+    assert_eq!((mended.bytes, mended.dropped().len()), (&DAMAGED[1..8], 0));
 }

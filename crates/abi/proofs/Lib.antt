@@ -4,3 +4,4 @@ pub mod Copying
 pub mod Unique
 pub mod Given
 pub mod Kept
+pub mod Counted

@@ -3,3 +3,4 @@ pub mod Copied
 pub mod Rows
 pub mod Sent
 pub mod Settings
+pub mod Mended

@@ -3,6 +3,7 @@
 mod answer;
 mod copied;
 mod dataset;
+mod mended;
 mod object_table;
 mod property;
 mod record;

@@ -2,6 +2,7 @@
 use crate::kept;
 use crate::list;
 use crate::listed;
+use crate::mended;
 use crate::reads;
 use crate::show;
 use layout::Written;
@@ -139,6 +140,7 @@ pub fn of(
         b's' => kept::row(a, src, text, at),
         b'f' => kept::find(a, src, halves, text, at),
         b'c' => copy(a, src, text, at),
+        b'm' => mended::answer(a, src, text, at),
         b'L' => listed::answer(src, text, at),
         _ => print::unknown(text, at),
     }

@@ -7,6 +7,7 @@ mod kept;
 mod list;
 mod listed;
 mod long;
+mod mended;
 mod question;
 mod reads;
 mod show;

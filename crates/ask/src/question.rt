@@ -10,7 +10,7 @@ pub const READS: u8 = b'r';
 
 pub const WRITES: u8 = b'w';
 
-const TABLE: [u8; 742] = *b"\
+const TABLE: [u8; 754] = *b"\
     response-name rR 2;\
     command-name rC 2;\
     value rv 28b;\
@@ -57,6 +57,7 @@ const TABLE: [u8; 742] = *b"\
     record rr b;\
     write-record wr 2br;\
     copy lc br;\
+    mend lm brm;\
     listing lL b";
 
 pub struct Question {

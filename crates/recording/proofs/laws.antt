@@ -2,3 +2,4 @@
 -- Assumes nothing.
 pub mod Rowed
 pub mod Older
+pub mod Fronted

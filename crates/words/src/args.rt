@@ -1,5 +1,5 @@
 // A question's words, read by its signature: a letter a word.
-// 1 2 4 8: a number of so many bytes; r: a room; b: bytes; h: a list of 16-bit numbers, of which there is one at most; n: of 32-bit
+// 1 2 4 8: a number of so many bytes; r: a room; m: a report's room; b: bytes; h: a list of 16-bit numbers, of which there is one at most; n: of 32-bit
 // ones, as many as are lent room; l: a description's layout, `crate` or `book`; e: an edition, 1 or 2; w: as it stands.
 use crate::list;
 use crate::number;
@@ -35,6 +35,7 @@ fn most(letter: u8) -> u64 {
         b'2' => 0xFFFF,
         b'4' => 0xFFFF_FFFF,
         b'r' => 1048576,
+        b'm' => 4096,
         _ => 0xFFFF_FFFF_FFFF_FFFF,
     }
 }

@@ -1,9 +1,14 @@
 // The text of the answers: a lent buffer, and the place after what stands in it. A full buffer is written out and
 // begun again, so every function here takes the place and answers the next. Where it could not be written, the place is one behind
 // the buffer from then on, and nothing more is put or written.
+ghost use Prim.Native.Nat.{_<_};
+ghost use lib.ListN.{length};
 use crate::slice;
 
 const FILLING: u8 = 0xa5;
+
+// Eight bytes of it.
+const FILLING_64: u64 = 0xa5a5_a5a5_a5a5_a5a5;
 
 const LOST: usize = 0xFFFF_FFFF_FFFF_FFFF;
 
@@ -113,6 +118,48 @@ pub fn list32(text: &mut [u8], at: usize, list: &[u32]) -> usize {
     o
 }
 
+// Where the numbers end that are equal to the one at a place.
+fn run_end(list: &[u64], from: usize) -> usize
+    requires { ⌜ from < length (now list) ⌝ }
+    ensures { λ r. ⌜ from < r ⌝ }
+{
+    let first = list[from];
+    let mut i = from + 1;
+    while i < list.len() {
+        if list[i] != first {
+            return i;
+        }
+        i += 1;
+    }
+    i
+}
+
+// A number and, where it stands more than once, how often.
+fn run(text: &mut [u8], at: usize, n: u64, times: usize) -> usize {
+    let o = decimal(text, at, n);
+    if times < 2 {
+        return o;
+    }
+    let a = put(text, o, b'*');
+    decimal(text, a, times as u64)
+}
+
+// Joined by commas, equal neighbours as one with their count, `-` for none.
+pub fn runs(text: &mut [u8], at: usize, list: &[u64]) -> usize {
+    if list.len() == 0 {
+        return put(text, at, b'-');
+    }
+    let mut o = at;
+    let mut i: usize = 0;
+    while i < list.len() {
+        let end = run_end(list, i);
+        o = between(text, o, i, b',');
+        o = run(text, o, list[i], end - i);
+        i = end;
+    }
+    o
+}
+
 // Writes what stands before the place: whether all is written.
 pub fn flush(text: &[u8], at: usize) -> bool {
     if is_lost(text, at) {
@@ -148,6 +195,21 @@ fn fill(out: &mut [u8]) {
     let mut i: usize = 0;
     while i < out.len() {
         out[i] = FILLING;
+        i += 1;
+    }
+}
+
+// The same of numbers, so many.
+pub fn report(list: &mut [u64], size: usize) -> &mut [u64] {
+    let p = slice::part64_mut(list, size);
+    fill64(p);
+    p
+}
+
+fn fill64(list: &mut [u64]) {
+    let mut i: usize = 0;
+    while i < list.len() {
+        list[i] = FILLING_64;
         i += 1;
     }
 }

@@ -63,6 +63,13 @@ pub fn part32_mut(list: &mut [u32], start: usize, count: usize) -> &mut [u32] {
     &mut list[..0]
 }
 
+pub fn part64_mut(list: &mut [u64], count: usize) -> &mut [u64] {
+    if count <= list.len() {
+        return &mut list[0..count];
+    }
+    &mut list[..0]
+}
+
 pub fn byte(s: &[u8], i: usize) -> u8 {
     if i < s.len() {
         return s[i];

@@ -1,6 +1,6 @@
 //! Commands, answers, object tables and records.
 use super::{datasets, show, words};
-use ptp_proved::{copy_recording, find_answer, read_record, Answer, Made, ObjectTable, PtpRecord, Refusal, Session};
+use ptp_proved::{copy_recording, find_answer, mend_recording, read_record, Answer, Made, ObjectTable, PtpRecord, Refusal, Session};
 
 // The session that was asked, at its state before; and what it made: the number sent, and how many bytes.
 fn made(state: u32, session: Session, made: Result<(u32, usize), Refusal>, out: &[u8]) -> String {
@@ -177,6 +177,22 @@ pub fn copy(s: &str, room: &str) -> Option<String> {
     Some(match answer {
         Ok((count, records, bytes)) => format!("ok {count} {} {records} {bytes}", show::bytes(&out)),
         Err(why) => format!("{} {}", show::refusal(why), show::bytes(&out)),
+    })
+}
+
+pub fn mend(s: &str, room: &str, report: &str) -> Option<String> {
+    let s = words::bytes(s)?;
+    let mut out = words::room(room)?;
+    let [mut starts, mut lengths] = [words::report(report)?, words::report(report)?];
+    let answer = mend_recording(&s, &mut out, &mut starts, &mut lengths).map(|mended| {
+        let dropped = mended.dropped().map(|(_, length)| length as usize).sum::<usize>();
+        assert_eq!(mended.bytes.len() + dropped, s.len());
+        (mended.bytes.len(), mended.dropped().len())
+    });
+    let lists = format!("{} {}", show::runs(&starts), show::runs(&lengths));
+    Some(match answer {
+        Ok((count, stretches)) => format!("ok {count} {} {stretches} {lists}", show::bytes(&out)),
+        Err(why) => format!("{} {} {lists}", show::refusal(why), show::bytes(&out)),
     })
 }
 

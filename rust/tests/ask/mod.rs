@@ -6,7 +6,7 @@ mod show;
 mod words;
 
 /// Every kind that is compared.
-pub const KINDS: [&str; 22] = [
+pub const KINDS: [&str; 23] = [
     "device",
     "object",
     "storage",
@@ -28,6 +28,7 @@ pub const KINDS: [&str; 22] = [
     "settings-store",
     "record",
     "copy",
+    "mend",
     "container",
 ];
 
@@ -55,6 +56,7 @@ pub fn answer(kind: &str, words: &[&str]) -> Option<String> {
         ("settings-store", [edition, row, entry, room]) => settings::store(edition, row, entry, room),
         ("record", [s]) => links::record(s),
         ("copy", [s, room]) => links::copy(s, room),
+        ("mend", [s, room, report]) => links::mend(s, room, report),
         ("container", [s]) => links::container(s),
         _ => None,
     }

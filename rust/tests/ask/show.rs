@@ -30,6 +30,14 @@ pub fn numbers<T: Display>(numbers: impl IntoIterator<Item = T>) -> String {
     }
 }
 
+/// Equal neighbours as one, with their count.
+pub fn runs(list: &[u64]) -> String {
+    numbers(list.chunk_by(|one, other| one == other).map(|run| match run.len() {
+        1 => run[0].to_string(),
+        times => format!("{}*{times}", run[0]),
+    }))
+}
+
 fn joined<T: Display>(items: impl IntoIterator<Item = T>, between: &str) -> String {
     items.into_iter().map(|item| item.to_string()).collect::<Vec<_>>().join(between)
 }

@@ -48,3 +48,8 @@ pub fn bytes(word: &str) -> Option<Vec<u8>> {
 pub fn room(word: &str) -> Option<Vec<u8>> {
     number(word, LARGEST_ROOM).map(|n| vec![0xA5; n as usize])
 }
+
+/// One list of a report with room for so many stretches, filled as an output is.
+pub fn report(word: &str) -> Option<Vec<u64>> {
+    number(word, LONGEST_LIST as u64).map(|n| vec![0xA5A5_A5A5_A5A5_A5A5; n as usize])
+}

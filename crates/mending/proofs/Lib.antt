@@ -1,0 +1,11 @@
+pub mod Searching
+pub mod Stretched
+pub mod Sweeping
+pub mod Going
+pub mod Cutting
+pub mod Whole
+pub mod Laws
+pub mod Windows
+pub mod Turning
+pub mod Runs
+pub mod Ends

@@ -1,0 +1,74 @@
+-- `mending::search::gap_end`: a turn drops one byte, or stops for one of the three reasons. Assumes nothing.
+use mathlib.Core.Path.{_≡_, sym, _∙_}
+use mathlib.Core.Bool.{true, false}
+use Prim.Native.Nat.{_-_, _≤_}
+use native.Mathlib.Omega.{arith}
+use denote.Ref.{now}
+use lib.ListN.{length, drop}
+use Rattle.layout.proofs.laws.Reading.{heard}
+use Rattle.recording.specs.Record.{saysRecord}
+use Rattle.mending.specs.Window.{waits}
+use Rattle.mending.specs.Passed.{Drops, none-dropped, one-dropped, at-end, waiting, stands}
+use Rattle.mending.proofs.Searching.{part-from}
+use borrow.Author.Needs.{needs}
+use Rattle.mending.proofs.search.gap_end.Statement.{statement}
+use Rattle.mending.proofs.search.gap_end.Tie as tie
+
+abbrev Inv-loop : tie.InvT-loop
+Inv-loop s from last at₀ at = Drops last s from at × (from ≤ at) × (at ≤ length s)
+
+abbrev μ-loop : tie.MeasureT-loop
+μ-loop s from last at₀ at = length s - at
+
+loop-holds : tie.Need-loop-holds Inv-loop μ-loop
+loop-holds c = (none-dropped, omega arith, c .before .pre)
+
+returns : tie.Need-returns Inv-loop μ-loop
+returns c =
+    let l = c .before .before .before .before .before in
+    let s = now (l .before .before .args .s) in
+    let e = rw (part-from s (l .loop .at)) at (heard saysRecord (c .enum-told .given .1) (c .before .before .read-record .ensures)) in
+    record { drops = l .loop .inv .0; held = stands (c .before .before .before .before .loop-test .taken) e; least = l .loop .inv .1; within = l .loop .inv .2 }
+
+returns-2 : tie.Need-returns-2 Inv-loop μ-loop
+returns-2 c =
+    let l = c .before .before .before .before .before .before .before in
+    let a = l .before .before .args in
+    let w : waits (a .last) (drop (l .loop .at) (now (a .s))) ≡ true = rw (part-from (now (a .s)) (l .loop .at)) at (sym (c .before .waits .ensures) ∙ c .if1 .taken) in
+    record { drops = l .loop .inv .0; held = waiting (c .before .before .before .before .before .before .loop-test .taken) w; least = l .loop .inv .1; within = l .loop .inv .2 }
+
+loop-again : tie.Need-loop-again Inv-loop μ-loop
+loop-again c =
+    let l = c .before .before .before .before .before .before .before in
+    let a = l .before .before .args in
+    let s = now (a .s) in
+    let more = c .before .before .before .before .before .before .loop-test .taken in
+    let w : waits (a .last) (drop (l .loop .at) s) ≡ false = rw (part-from s (l .loop .at)) at (sym (c .before .waits .ensures) ∙ c .if1 .left) in
+    let e = rw (part-from s (l .loop .at)) at (heard saysRecord (c .before .before .enum-told2 .given .1) (c .before .before .before .before .read-record .ensures)) in
+    (one-dropped (l .loop .inv .0) more w e, omega (arith, l .loop .inv .1), omega arith)
+
+returns-3 : tie.Need-returns-3 Inv-loop μ-loop
+returns-3 c =
+    let l = c .before in
+    record { drops = l .loop .inv .0; held = at-end (c .loop-test .left); least = l .loop .inv .1; within = l .loop .inv .2 }
+
+pub gap-end-spec : {M : Type 1} → statement M
+gap-end-spec =
+    tie.close
+    (tie.spec
+    Inv-loop
+    μ-loop
+    loop-holds
+    (λ c. search needs)
+    (λ c. search needs)
+    (λ c. search needs)
+    (λ c κs. search needs)
+    (λ c. search needs)
+    returns
+    (λ c. search needs)
+    (λ c κs. search needs)
+    returns-2
+    (λ c. search needs)
+    (λ c. search needs)
+    loop-again
+    returns-3)

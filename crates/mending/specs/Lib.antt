@@ -1,0 +1,7 @@
+pub mod Mended
+pub mod Window
+pub mod Passed
+pub mod Laid
+pub mod InWindows
+pub mod Turn
+pub mod Run
