@@ -9,3 +9,5 @@ pub mod Tested
 pub mod Extremes
 pub mod Broken
 pub mod Exact
+pub mod Scanning
+pub mod Rows

@@ -14,6 +14,7 @@ ghost use Rattle.panel.specs.Words.{isNothing};
 
 mod member;
 mod range;
+mod scan;
 
 use layout::Refusal;
 use layout::Written;

@@ -3,6 +3,7 @@ ghost use mathlib.Core.Path.{_≡_};
 ghost use mathlib.Core.Bool.{true, false};
 ghost use Rattle.panel.specs.Words.{coreOf, rest, Gives, Finds};
 use crate::STR;
+use crate::scan;
 use wire::Step;
 
 // The bytes by which a value is compared: of a string the units before the last, else all of them.
@@ -35,8 +36,8 @@ fn same(a: &[u8], b: &[u8]) -> bool
     true
 }
 
-// Whether one of the `count` values from a place on is the one that the chosen bytes are.
-pub(crate) fn is_member(
+// Whether one of the `count` values from a place on is the one that the chosen bytes are, a step at a time.
+fn is_member_by_steps(
     description: &[u8],
     code: u16,
     first: usize,
@@ -61,4 +62,22 @@ pub(crate) fn is_member(
             Step::End => return false,
         }
     }
+}
+
+// The same; numbers of up to 64 bits stand in a row, and are looked through as words.
+pub(crate) fn is_member(
+    description: &[u8],
+    code: u16,
+    first: usize,
+    count: u16,
+    chosen: &[u8],
+) -> bool
+    requires { ⌜ Gives code (rest description code first count) ⌝ }
+    ensures { λ r. ⌜ Finds code (rest (description .entry) code first count) (now (chosen .entry)) r ⌝ }
+{
+    let w = scan::plain_width(code);
+    if scan::laid_out(w, count, first, description.len(), chosen.len()) {
+        return scan::holds(description, first, count as usize, w, chosen);
+    }
+    is_member_by_steps(description, code, first, count, chosen)
 }
