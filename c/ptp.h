@@ -1,9 +1,9 @@
-/* The byte layer of the picture transfer protocol: nineteen proved functions, in C.
+/* The byte layer of the picture transfer protocol: forty-six proved functions, in C.
  *
  * Each function answers how many numbers or bytes it gave, 0 or more; or a refusal, below 0: minus (its number, 1 to 18, and 256 times its
  * place), which ptp_refusal_number and ptp_refusal_place take apart. The place is that of the first byte of the field that failed, for
  * END and TEXT: an array's count, a string's count byte, a list's failing value. It counts in the bytes that were lent, of an object's
- * name in that name, and is exact in arrays below 2^55 bytes. Every other refusal has the place 0.
+ * name in that name. A place from 2^55 - 1 on is told as that one, which no array reaches. Every other refusal has the place 0.
  *
  * A refusal changes nothing that was lent, and numbers and bytes past what was given are unchanged. Where several refusals would apply,
  * the first in the order that is named here is given. Every function ends, keeps no pointer, and neither allocates nor calls back.
@@ -13,7 +13,8 @@
  *
  * In an answer's numbers a string is the START of its units and their COUNT, an array the START of its items and their COUNT: units and
  * items are of two bytes, low byte first, and so lie in the bytes START to START + 2 * COUNT. A value or a payload is a START and a
- * LENGTH in bytes. Each start is a place in the bytes that were read. TAKEN is how many of these were read.
+ * LENGTH in bytes. Each start is a place in the bytes that were read. TAKEN is how many of these were read. A string's count byte stands
+ * right before its START, also where it has no units: ptp_string_place is the place that ptp_utf8 and the like take.
  *
  * A property's description has one of two layouts, which the caller names by `book`: true for PIMA 15740's, which has no IsEnable byte,
  * false for the one with that byte behind GetSet. There is no default, and nothing guesses: some bytes fit both.
@@ -24,6 +25,11 @@
 #include <stdbool.h>
 #include <stddef.h>
 #include <stdint.h>
+
+#define PTP_VERSION_MAJOR 0
+#define PTP_VERSION_MINOR 1
+#define PTP_VERSION_PATCH 0
+#define PTP_VERSION "0.1.0"
 
 #ifdef __cplusplus
 extern "C" {
@@ -60,6 +66,12 @@ static inline enum ptp_refusal ptp_refusal_number(int64_t answer)
 static inline uint64_t ptp_refusal_place(int64_t answer)
 {
     return (0 - (uint64_t)answer) / 256;
+}
+
+/* Of the START of a string's units: the place of the string. */
+static inline size_t ptp_string_place(uint64_t start)
+{
+    return (size_t)start - 1;
 }
 
 /* ---- datasets: the one that begins the bytes; bytes may follow it. Refusals, field by field: END, TEXT; then ROOM. ---- */
@@ -177,6 +189,89 @@ enum { PTP_ENABLE_ABSENT = 256 }; /* PTP_PROP_IS_ENABLE in the book's layout; no
 
 int64_t ptp_prop_info(bool book, const uint8_t *s, size_t s_len, uint64_t *out, size_t out_len);
 
+/* ---- the payloads of camera calls that must be filled: END, TRAIL where bytes follow, ROOM. Those of device and object info are the
+ * datasets above. ---- */
+
+enum ptp_part_number {
+    PTP_PART_NEXT, /* the place after it */
+    PTP_PART_START,
+    PTP_PART_COUNT,
+    PTP_PART_NUMBERS /* 3 */
+};
+
+/* Object handles, or storage IDs: items of four bytes. */
+int64_t ptp_handles(const uint8_t *s, size_t s_len, uint64_t *out, size_t out_len);
+
+/* One number, and the place after it. */
+enum ptp_one_number { PTP_ONE_NEXT, PTP_ONE_NUMBER, PTP_ONE_NUMBERS /* 2 */ };
+
+int64_t ptp_object_count(const uint8_t *s, size_t s_len, uint64_t *out, size_t out_len);
+
+/* As ptp_storage_info gives it; TEXT too. */
+int64_t ptp_storage_payload(const uint8_t *s, size_t s_len, uint64_t *out, size_t out_len);
+
+/* ---- values at a place of the bytes, by their type code ---- */
+
+enum ptp_type {
+    PTP_INT8 = 1, PTP_UINT8, PTP_INT16, PTP_UINT16, PTP_INT32, PTP_UINT32, PTP_INT64, PTP_UINT64, PTP_INT128, PTP_UINT128,
+    PTP_ARRAY = 0x4000, /* with an integer's code: an array of that type */
+    PTP_STRING = 0xFFFF /* any other code is UNDEF, which has no bytes */
+};
+
+/* What PTP_VALUE_KIND says. */
+enum ptp_value_kind {
+    PTP_VALUE_UNDEF = 0,
+    PTP_VALUE_SIGNED = 1,   /* PTP_VALUE_FIRST is its word of 64 bits, two's complement */
+    PTP_VALUE_UNSIGNED = 2, /* it is the number */
+    PTP_VALUE_WIDE = 3,     /* of 128 bits: the low half, and PTP_VALUE_SECOND the high one */
+    PTP_VALUE_ARRAY = 4,    /* the start of the items, and their count */
+    PTP_VALUE_STRING = 5    /* the start of the units, and their count */
+};
+
+enum ptp_value_number {
+    PTP_VALUE_NEXT, /* the place after it */
+    PTP_VALUE_KIND,
+    PTP_VALUE_FIRST,
+    PTP_VALUE_SECOND,
+    PTP_VALUE_NUMBERS /* 4 */
+};
+
+/* Refusals: END, TEXT; ROOM. */
+int64_t ptp_value(const uint8_t *s, size_t s_len, size_t at, uint16_t code, uint64_t *out, size_t out_len);
+
+/* Item n, from 0, of the array at a place, as a value. Refusals: PLACE for a code that is no array's; END; PLACE where there is no such
+ * item; ROOM. One item costs no more than any other: the array's bytes are not gone through. */
+int64_t ptp_item(const uint8_t *s, size_t s_len, size_t at, uint16_t code, size_t n, uint64_t *out, size_t out_len);
+
+/* A string's units: where they stand. Refusals: END, TEXT; ROOM. */
+int64_t ptp_text(const uint8_t *s, size_t s_len, size_t at, uint64_t *out, size_t out_len);
+
+/* Unit n, from 0, of the string at a place. Refusals: END, TEXT; PLACE; ROOM. Each call reads the whole string: to go through one, take
+ * its units by ptp_text. */
+int64_t ptp_unit(const uint8_t *s, size_t s_len, size_t at, size_t n, uint64_t *out, size_t out_len);
+
+/* A string's length in UTF-8, and the string in UTF-8. Refusals: END, TEXT; ROOM. */
+int64_t ptp_utf8_len(const uint8_t *s, size_t s_len, size_t at, uint64_t *out, size_t out_len);
+int64_t ptp_utf8(const uint8_t *s, size_t s_len, size_t at, uint8_t *out, size_t out_len);
+
+/* ---- writers: answer how many bytes ---- */
+
+/* An integer of one of the types 1 to 10, by the low bytes of its word; of 128 bits by both. Refusals: PLACE for another type; ROOM. */
+int64_t ptp_write_integer(uint16_t code, uint64_t low, uint64_t high, uint8_t *out, size_t out_len);
+
+/* A string from its units, at most 254 of them. Refusals: TEXT, without a place; COUNT; ROOM. */
+int64_t ptp_write_text(const uint16_t *units, size_t units_len, uint8_t *out, size_t out_len);
+
+/* An array from its type code and the bytes of its items. Refusals: PLACE for a code that is no array's; COUNT where the bytes are no whole
+ * items, or too many; ROOM. */
+int64_t ptp_write_array(uint16_t code, const uint8_t *items, size_t items_len, uint8_t *out, size_t out_len);
+
+/* The tidy spelling of the value, or of the record, that begins the bytes. Refusals: those of reading it, END and TEXT; ROOM. */
+int64_t ptp_tidy_value(uint16_t code, const uint8_t *s, size_t s_len, uint8_t *out, size_t out_len);
+int64_t ptp_tidy_device(const uint8_t *s, size_t s_len, uint8_t *out, size_t out_len);
+int64_t ptp_tidy_object(const uint8_t *s, size_t s_len, uint8_t *out, size_t out_len);
+int64_t ptp_tidy_storage(const uint8_t *s, size_t s_len, uint8_t *out, size_t out_len);
+
 /* ---- what a panel asks of a property's description ---- */
 
 enum ptp_list_value_number {
@@ -187,8 +282,23 @@ enum ptp_list_value_number {
 };
 
 /* Value n, from 0, of the list of the description that begins the bytes. Refusals: those of ptp_prop_info's reading, END and TEXT; PLACE
- * where there is no such value or no list; ROOM. */
+ * where there is no such value or no list; ROOM. Each call reads the description anew, and a list of strings up to its n-th: to go through
+ * a list, take ptp_next_value. */
 int64_t ptp_list_value(bool book, const uint8_t *s, size_t s_len, size_t n, uint64_t *out, size_t out_len);
+
+enum ptp_next_number {
+    PTP_NEXT_PLACE, /* the place after it */
+    PTP_NEXT_LEFT,  /* how many are left then */
+    PTP_NEXT_KIND,
+    PTP_NEXT_FIRST,
+    PTP_NEXT_SECOND,
+    PTP_NEXT_NUMBERS /* 5 */
+};
+
+/* The next of a list's values, from a place on with so many left: first PTP_PROP_LIST_START and PTP_PROP_LIST_COUNT, with
+ * PTP_PROP_DATA_TYPE for the code; then the place and the number that the call before gave. Its bytes are those from the one place to the
+ * other. Answers 0 where the list has ended. All steps of a list cost what its bytes cost. Refusal: ROOM. */
+int64_t ptp_next_value(const uint8_t *s, size_t s_len, uint16_t code, size_t at, uint16_t left, uint64_t *out, size_t out_len);
 
 enum ptp_newer_number {
     PTP_NEWER_OF_PAYLOAD, /* 1: a part of the payload; 0: a part of the description */
@@ -211,25 +321,23 @@ int64_t ptp_tidy_property(bool book, const uint8_t *s, size_t s_len, uint8_t *ou
  * no bytes; else the data are not looked at. Answers how many bytes. *number is the session's state: 0 where it is closed, as a fresh one
  * is, else its next transaction number. OpenSession (0x1002) is sent with 0, and makes it 1, whatever it was. A closed session sends any
  * other command with 0, and stays closed. An open one sends *number: CloseSession (0x1003) makes it 0, any other command one more, and 1
- * after 4,294,967,294 or above. The number that was sent stands in bytes 8 to 11 of the output, the lowest first. Refusals, which leave
- * *number: COUNT, ROOM. */
-int64_t ptp_command(uint32_t *number, uint16_t code, const uint32_t *params, size_t params_len, const uint8_t *data, size_t data_len,
-                    bool with_data, uint8_t *out, size_t out_len);
+ * after 4,294,967,294 or above. The number that was sent stands in bytes 8 to 11 of the output, the lowest first. *end is where the
+ * Command ends then, and the Data container begins: two transfers, and two records of a recording. Refusals, which leave *number and *end:
+ * COUNT, ROOM. */
+int64_t ptp_command(uint32_t *number, size_t *end, uint16_t code, const uint32_t *params, size_t params_len, const uint8_t *data,
+                    size_t data_len, bool with_data, uint8_t *out, size_t out_len);
 
 /* SetDevicePropValue of a value that the description allows: the Command with the property's code, and right behind it the Data container
  * with the value's tidy spelling. The description begins its bytes; the value is of this type, and fills its bytes. Answers how many bytes,
- * and counts *number on as ptp_command does. Refusals, which leave *number: END and TEXT of the description; TYPE; END, TEXT and TRAIL of
+ * and counts *number on and tells *end as ptp_command does. Refusals, which leave both: END and TEXT of the description; TYPE; END, TEXT and TRAIL of
  * the value; VALUE; COUNT, ROOM. */
-int64_t ptp_set_value(bool book, uint32_t *number, const uint8_t *description, size_t description_len, uint16_t code,
+int64_t ptp_set_value(bool book, uint32_t *number, size_t *end, const uint8_t *description, size_t description_len, uint16_t code,
                       const uint8_t *value, size_t value_len, uint8_t *out, size_t out_len);
-
-/* The Response that brings a payload. */
-enum { PTP_RESPONSE_OK = 0x2001 };
 
 enum ptp_answer_number {
     PTP_ANSWER_NEXT,          /* the place after the Response */
     PTP_ANSWER_CODE,          /* its code */
-    PTP_ANSWER_PAYLOAD_START, /* the last Data container's payload: 0 and 0 without Data, and where the code is not PTP_RESPONSE_OK */
+    PTP_ANSWER_PAYLOAD_START, /* the last Data container's payload: 0 and 0 without Data, and where the code is not PTP_RESPONSE_OK, below */
     PTP_ANSWER_PAYLOAD_LENGTH,
     PTP_ANSWER_NUMBERS /* 4 */
 };
@@ -244,6 +352,11 @@ int64_t ptp_find_answer(const uint8_t *s, size_t s_len, uint32_t number, uint64_
  * TRAIL; ROOM. */
 int64_t ptp_walk(const uint32_t *handles, size_t handles_len, const uint16_t *parents, size_t parents_len, const uint32_t *ends,
                  size_t ends_len, const uint8_t *names, size_t names_len, uint16_t *places, size_t places_len);
+
+/* The path of one place, in UTF-8. Answers how many bytes. Refusals: those of the table as above; PLACE; ROOM. Each call checks the whole
+ * table: for all paths take ptp_paths. */
+int64_t ptp_path(const uint32_t *handles, size_t handles_len, const uint16_t *parents, size_t parents_len, const uint32_t *ends,
+                 size_t ends_len, const uint8_t *names, size_t names_len, size_t place, uint8_t *out, size_t out_len);
 
 /* All paths in walk order, in UTF-8, end to end, and the end of each. Answers how many bytes; there are as many ends as handles. Refusals:
  * those of the table as above; ROOM for either output. */
@@ -312,6 +425,23 @@ enum ptp_record_kind {
 
 enum ptp_container_kind { PTP_CONTAINER_COMMAND = 1, PTP_CONTAINER_DATA = 2, PTP_CONTAINER_RESPONSE = 3, PTP_CONTAINER_EVENT = 4 };
 
+enum ptp_container_number {
+    PTP_CONTAINER_NEXT, /* the place after it */
+    PTP_CONTAINER_KIND,
+    PTP_CONTAINER_CODE,
+    PTP_CONTAINER_NUMBER,
+    PTP_CONTAINER_PAYLOAD_START,
+    PTP_CONTAINER_PAYLOAD_LENGTH,
+    PTP_CONTAINER_NUMBERS /* 6 */
+};
+
+/* The container at a place, an event's too. Refusals: END for six bytes, KIND, END for twelve, LENGTH, SIZE; ROOM. */
+int64_t ptp_read_container(const uint8_t *s, size_t s_len, size_t at, uint64_t *out, size_t out_len);
+
+/* A container. Refusals: KIND, COUNT, ROOM. */
+int64_t ptp_write_container(uint16_t kind, uint16_t code, uint32_t number, const uint8_t *payload, size_t payload_len, uint8_t *out,
+                            size_t out_len);
+
 enum ptp_record_number {
     PTP_RECORD_TAKEN,
     PTP_RECORD_KIND,
@@ -328,6 +458,29 @@ enum ptp_record_number {
 /* The record that begins the bytes. Refusals: END for six bytes, RECORD, LONG, END for the body; of its container END, KIND, END, LENGTH,
  * SIZE, TRAIL; ROOM. */
 int64_t ptp_read_record(const uint8_t *s, size_t s_len, uint64_t *out, size_t out_len);
+
+/* A record of kind PTP_FROM_CAMERA or PTP_TO_CAMERA, whose body is one container. Refusals: RECORD, LONG; of the container END, KIND, END,
+ * LENGTH, SIZE, TRAIL; ROOM. */
+int64_t ptp_write_record(uint16_t kind, const uint8_t *body, size_t body_len, uint8_t *out, size_t out_len);
+
+/* The listing's first line. Refusal: ROOM. */
+int64_t ptp_write_heading(uint8_t *out, size_t out_len);
+
+enum ptp_listed_number {
+    PTP_LISTED_USED,    /* how many bytes of the window were listed */
+    PTP_LISTED_PLACE,   /* the place and the number of records after them, which the next call is given */
+    PTP_LISTED_RECORDS,
+    PTP_LISTED_STOPPED, /* 1: a refused record ended the listing */
+    PTP_LISTED_NUMBERS  /* 4 */
+};
+
+/* The lines of the whole records of a window of a recording, as many as have room; a line has at most 128 bytes, and with less room than
+ * that nothing is listed. `last` says that the recording ends with the window. Answers how many bytes. Refusal: ROOM for the numbers. */
+int64_t ptp_list_window(const uint8_t *s, size_t s_len, bool last, uint64_t place, uint64_t records, uint8_t *out, size_t out_len,
+                        uint64_t *counts, size_t counts_len);
+
+/* The listing's last line. Refusal: ROOM. */
+int64_t ptp_write_ending(uint64_t records, uint64_t place, uint8_t *out, size_t out_len);
 
 enum ptp_left_number { PTP_LEFT_RECORDS, PTP_LEFT_BYTES, PTP_LEFT_NUMBERS /* 2 */ };
 
@@ -347,6 +500,85 @@ enum ptp_mended_number {
  * starts and the lengths have room for as many stretches as the shorter of the two. */
 int64_t ptp_mend_recording(const uint8_t *s, size_t s_len, uint8_t *out, size_t out_len, uint64_t *starts, size_t starts_len,
                            uint64_t *lengths, size_t lengths_len, uint64_t *counts, size_t counts_len);
+
+/* ---- the names of codes ---- */
+
+enum ptp_response {
+    PTP_RESPONSE_UNDEFINED = 0x2000,
+    PTP_RESPONSE_OK = 0x2001,
+    PTP_RESPONSE_GENERAL_ERROR = 0x2002,
+    PTP_RESPONSE_SESSION_NOT_OPEN = 0x2003,
+    PTP_RESPONSE_INVALID_TRANSACTION_ID = 0x2004,
+    PTP_RESPONSE_OPERATION_NOT_SUPPORTED = 0x2005,
+    PTP_RESPONSE_PARAMETER_NOT_SUPPORTED = 0x2006,
+    PTP_RESPONSE_INCOMPLETE_TRANSFER = 0x2007,
+    PTP_RESPONSE_INVALID_STORAGE_ID = 0x2008,
+    PTP_RESPONSE_INVALID_OBJECT_HANDLE = 0x2009,
+    PTP_RESPONSE_DEVICE_PROP_NOT_SUPPORTED = 0x200A,
+    PTP_RESPONSE_INVALID_OBJECT_FORMAT_CODE = 0x200B,
+    PTP_RESPONSE_STORE_FULL = 0x200C,
+    PTP_RESPONSE_OBJECT_WRITE_PROTECTED = 0x200D,
+    PTP_RESPONSE_STORE_READ_ONLY = 0x200E,
+    PTP_RESPONSE_ACCESS_DENIED = 0x200F,
+    PTP_RESPONSE_NO_THUMBNAIL_PRESENT = 0x2010,
+    PTP_RESPONSE_SELF_TEST_FAILED = 0x2011,
+    PTP_RESPONSE_PARTIAL_DELETION = 0x2012,
+    PTP_RESPONSE_STORE_NOT_AVAILABLE = 0x2013,
+    PTP_RESPONSE_SPECIFICATION_BY_FORMAT_UNSUPPORTED = 0x2014,
+    PTP_RESPONSE_NO_VALID_OBJECT_INFO = 0x2015,
+    PTP_RESPONSE_INVALID_CODE_FORMAT = 0x2016,
+    PTP_RESPONSE_UNKNOWN_VENDOR_CODE = 0x2017,
+    PTP_RESPONSE_CAPTURE_ALREADY_TERMINATED = 0x2018,
+    PTP_RESPONSE_DEVICE_BUSY = 0x2019,
+    PTP_RESPONSE_INVALID_PARENT_OBJECT = 0x201A,
+    PTP_RESPONSE_INVALID_DEVICE_PROP_FORMAT = 0x201B,
+    PTP_RESPONSE_INVALID_DEVICE_PROP_VALUE = 0x201C,
+    PTP_RESPONSE_INVALID_PARAMETER = 0x201D,
+    PTP_RESPONSE_SESSION_ALREADY_OPEN = 0x201E,
+    PTP_RESPONSE_TRANSACTION_CANCELLED = 0x201F,
+    PTP_RESPONSE_SPECIFICATION_OF_DESTINATION_UNSUPPORTED = 0x2020
+};
+
+enum ptp_command_code {
+    PTP_COMMAND_UNDEFINED = 0x1000,
+    PTP_COMMAND_GET_DEVICE_INFO = 0x1001,
+    PTP_COMMAND_OPEN_SESSION = 0x1002,
+    PTP_COMMAND_CLOSE_SESSION = 0x1003,
+    PTP_COMMAND_GET_STORAGE_IDS = 0x1004,
+    PTP_COMMAND_GET_STORAGE_INFO = 0x1005,
+    PTP_COMMAND_GET_NUM_OBJECTS = 0x1006,
+    PTP_COMMAND_GET_OBJECT_HANDLES = 0x1007,
+    PTP_COMMAND_GET_OBJECT_INFO = 0x1008,
+    PTP_COMMAND_GET_OBJECT = 0x1009,
+    PTP_COMMAND_GET_THUMB = 0x100A,
+    PTP_COMMAND_DELETE_OBJECT = 0x100B,
+    PTP_COMMAND_SEND_OBJECT_INFO = 0x100C,
+    PTP_COMMAND_SEND_OBJECT = 0x100D,
+    PTP_COMMAND_INITIATE_CAPTURE = 0x100E,
+    PTP_COMMAND_FORMAT_STORE = 0x100F,
+    PTP_COMMAND_RESET_DEVICE = 0x1010,
+    PTP_COMMAND_SELF_TEST = 0x1011,
+    PTP_COMMAND_SET_OBJECT_PROTECTION = 0x1012,
+    PTP_COMMAND_POWER_DOWN = 0x1013,
+    PTP_COMMAND_GET_DEVICE_PROP_DESC = 0x1014,
+    PTP_COMMAND_GET_DEVICE_PROP_VALUE = 0x1015,
+    PTP_COMMAND_SET_DEVICE_PROP_VALUE = 0x1016,
+    PTP_COMMAND_RESET_DEVICE_PROP_VALUE = 0x1017,
+    PTP_COMMAND_TERMINATE_OPEN_CAPTURE = 0x1018,
+    PTP_COMMAND_MOVE_OBJECT = 0x1019,
+    PTP_COMMAND_COPY_OBJECT = 0x101A,
+    PTP_COMMAND_GET_PARTIAL_OBJECT = 0x101B,
+    PTP_COMMAND_INITIATE_OPEN_CAPTURE = 0x101C
+};
+
+/* Where a name stands in the name bytes: its start times 65,536, and its length; 0 for a code without a name. */
+int64_t ptp_response_place(uint16_t code);
+int64_t ptp_command_place(uint16_t code);
+
+enum { PTP_NAME_BYTES = 975 };
+
+/* All name bytes. Refusal: ROOM. */
+int64_t ptp_name_bytes(uint8_t *out, size_t out_len);
 
 #ifdef __cplusplus
 }

@@ -1,151 +1,23 @@
 /* Answers questions of docs/ASK.md through ptp.h: one a line in, one a line out. Each name of a number in ptp.h is used here, so that the
  * replay of `ask` tries that it names the right one. The questions are well written; `./ptp rust` leaves the others out. */
-#include "ptp.h"
+#include "replay_words.h"
+#include "replay_values.h"
+#include "replay_tables.h"
 
-#include <inttypes.h>
-#include <stdio.h>
-#include <stdlib.h>
-#include <string.h>
-
-enum { LONGEST = 1200000, MOST_PARAMS = 4096, MOST_WORDS = 7 };
-
-static char line[LONGEST + 2];
-static uint8_t first[LONGEST], second[LONGEST]; /* the bytes of a question's last words */
-
-static size_t read_bytes(const char *word, uint8_t *bytes)
+/* The length that was taken, where the question asks for it. */
+static void print_taken(bool taken, uint64_t length)
 {
-    size_t len = 0;
-    unsigned byte;
-    for (; sscanf(word, "%2x", &byte) == 1 && *word != '-'; word += 2)
-        bytes[len++] = (uint8_t)byte;
-    return len;
+    printf("ok");
+    if (taken)
+        print_number(length);
 }
 
-/* A number and, where the list goes on, the comma behind it. Zeros in front make it no octal one. */
-static uint32_t read_number(const char **at)
-{
-    char *end;
-    uint32_t number = (uint32_t)strtoul(*at, &end, strncmp(*at, "0x", 2) == 0 ? 16 : 10);
-    *at = end + (*end == ',');
-    return number;
-}
-
-static uint32_t number_of(const char *word)
-{
-    return read_number(&word);
-}
-
-static size_t read_list(const char *word, uint32_t *list)
-{
-    size_t len = 0;
-    while (*word != '-' && *word)
-        list[len++] = read_number(&word);
-    return len;
-}
-
-/* The refusal's number; of END and TEXT the place too, from the place where the question's bytes begin. */
-static void print_refusal(const char *word, int64_t answer, uint64_t from)
-{
-    printf("%s %d", word, (int)ptp_refusal_number(answer));
-    if (ptp_refusal_number(answer) == PTP_END || ptp_refusal_number(answer) == PTP_TEXT)
-        printf(" %" PRIu64, ptp_refusal_place(answer) - from);
-}
-
-/* Whether it gave all its numbers; else the refusal is printed. */
-static bool gave(int64_t answer, int64_t numbers)
-{
-    if (answer == numbers)
-        return true;
-    print_refusal("no", answer, 0);
-    return false;
-}
-
-static uint64_t word_at(const uint8_t *s, size_t width)
-{
-    uint64_t word = 0;
-    while (width-- > 0)
-        word = word << 8 | s[width];
-    return word;
-}
-
-static void print_number(uint64_t number)
-{
-    printf(" %" PRIu64, number);
-}
-
-/* A space and the bytes. */
-static void print_bytes(const uint8_t *s, size_t len)
-{
-    fputs(len ? " " : " -", stdout);
-    for (size_t i = 0; i < len; i++)
-        printf("%02x", s[i]);
-}
-
-static void print_units(const uint8_t *s, uint64_t start, uint64_t count)
-{
-    printf("s<");
-    for (uint64_t i = 0; i < count; i++)
-        printf("%s%04x", i ? "." : "", (unsigned)word_at(s + start + 2 * i, 2));
-    printf(">");
-}
-
-static void print_text(const uint8_t *s, uint64_t start, uint64_t count)
-{
-    printf(" ");
-    print_units(s, start, count);
-}
-
-/* An integer of one of the codes 1 to 10, signed where that is odd. */
-static void print_integer(const uint8_t *s, unsigned code)
-{
-    size_t width = (size_t)1 << (code - 1) / 2;
-    if (width == 16)
-        printf("%" PRIu64 ":%" PRIu64, word_at(s + 8, 8), word_at(s, 8));
-    else if (code % 2 == 0)
-        printf("%" PRIu64, word_at(s, width));
-    else if (s[width - 1] < 128)
-        printf("%" PRIu64, word_at(s, width));
-    else
-        printf("-%" PRIu64, (UINT64_MAX >> (64 - 8 * width)) - word_at(s, width) + 1);
-}
-
-static void print_array(const uint8_t *s, uint64_t start, uint64_t count, unsigned code)
-{
-    printf("[");
-    for (uint64_t i = 0; i < count; i++) {
-        fputs(i ? "," : "", stdout);
-        print_integer(s + start + (i << (code - 1) / 2), code);
-    }
-    printf("]");
-}
-
-static void print_shorts(const uint8_t *s, uint64_t start, uint64_t count)
-{
-    printf(" ");
-    print_array(s, start, count, 4);
-}
-
-static void print_value(const uint8_t *s, uint64_t start, uint64_t length, uint64_t type)
-{
-    unsigned code = type & 0x3FFF;
-    bool integer = 1 <= code && code <= 10;
-    printf(" ");
-    if (type == code && integer)
-        print_integer(s + start, code);
-    else if (type == (code | 0x4000) && integer)
-        print_array(s, start + 4, (length - 4) >> (code - 1) / 2, code);
-    else if (type == 0xFFFF)
-        print_units(s, start + 1, length > 1 ? (length - 3) / 2 : 0);
-    else
-        printf("undef");
-}
-
-static void device(const uint8_t *s, size_t len)
+static void device(const uint8_t *s, size_t len, bool taken)
 {
     uint64_t x[PTP_DEVICE_NUMBERS];
     if (!gave(ptp_device_info(s, len, x, PTP_DEVICE_NUMBERS), 25))
         return;
-    printf("ok %" PRIu64, x[PTP_DEVICE_TAKEN]);
+    print_taken(taken, x[PTP_DEVICE_TAKEN]);
     print_number(x[PTP_DEVICE_VERSION]);
     print_number(x[PTP_DEVICE_VENDOR_EX_ID]);
     print_number(x[PTP_DEVICE_VENDOR_EX_VERSION]);
@@ -162,12 +34,12 @@ static void device(const uint8_t *s, size_t len)
     print_text(s, x[PTP_DEVICE_SERIAL_NUMBER_START], x[PTP_DEVICE_SERIAL_NUMBER_COUNT]);
 }
 
-static void object(const uint8_t *s, size_t len)
+static void object(const uint8_t *s, size_t len, bool taken)
 {
     uint64_t x[PTP_OBJECT_NUMBERS];
     if (!gave(ptp_object_info(s, len, x, PTP_OBJECT_NUMBERS), 24))
         return;
-    printf("ok %" PRIu64, x[PTP_OBJECT_TAKEN]);
+    print_taken(taken, x[PTP_OBJECT_TAKEN]);
     print_number(x[PTP_OBJECT_STORAGE_ID]);
     print_number(x[PTP_OBJECT_OBJECT_FORMAT]);
     print_number(x[PTP_OBJECT_PROTECTION_STATUS]);
@@ -189,12 +61,12 @@ static void object(const uint8_t *s, size_t len)
     print_text(s, x[PTP_OBJECT_KEYWORDS_START], x[PTP_OBJECT_KEYWORDS_COUNT]);
 }
 
-static void storage(const uint8_t *s, size_t len)
+static void storage(const uint8_t *s, size_t len, bool taken)
 {
     uint64_t x[PTP_STORAGE_NUMBERS];
-    if (!gave(ptp_storage_info(s, len, x, PTP_STORAGE_NUMBERS), 11))
+    if (!gave((taken ? ptp_storage_info : ptp_storage_payload)(s, len, x, PTP_STORAGE_NUMBERS), 11))
         return;
-    printf("ok %" PRIu64, x[PTP_STORAGE_TAKEN]);
+    print_taken(taken, x[PTP_STORAGE_TAKEN]);
     print_number(x[PTP_STORAGE_STORAGE_TYPE]);
     print_number(x[PTP_STORAGE_FILESYSTEM_TYPE]);
     print_number(x[PTP_STORAGE_ACCESS_CAPABILITY]);
@@ -261,8 +133,11 @@ static void newer(bool book, const uint8_t *s, size_t len, const uint8_t *payloa
 }
 
 /* The number sent is that of the bytes; a refusal that does not leave the session's state is told as no refusal is. */
-static void print_made(int64_t answer, uint32_t state, uint32_t number, const uint8_t *out, size_t room)
+/* The Command ends where its own length says, and a refusal leaves that place as it was, which is the room. */
+static void print_made(int64_t answer, uint32_t state, uint32_t number, size_t end, const uint8_t *out, size_t room)
 {
+    if (end != (answer < 0 ? room : word_at(out, 4)))
+        printf("? ");
     if (answer < 0) {
         print_refusal(number == state ? "no" : "moved", answer, 0);
     } else {
@@ -281,9 +156,10 @@ static void command(uint32_t state, const char *code, const char *params_word, c
     size_t len = data_word ? read_bytes(data_word, first) : 0;
     size_t room = number_of(room_word);
     uint32_t number = state;
+    size_t end = room;
     memset(second, 0xA5, room);
-    int64_t answer = ptp_command(&number, (uint16_t)number_of(code), params, params_len, first, len, data_word != NULL, second, room);
-    print_made(answer, state, number, second, room);
+    int64_t answer = ptp_command(&number, &end, (uint16_t)number_of(code), params, params_len, first, len, data_word != NULL, second, room);
+    print_made(answer, state, number, end, second, room);
 }
 
 static void set_value(bool book, uint32_t state, const char *description, const char *code, const char *value, const char *room_word)
@@ -293,9 +169,10 @@ static void set_value(bool book, uint32_t state, const char *description, const 
     size_t chosen_len = read_bytes(value, chosen);
     size_t room = number_of(room_word);
     uint32_t number = state;
+    size_t end = room;
     memset(second, 0xA5, room);
-    int64_t answer = ptp_set_value(book, &number, first, len, (uint16_t)number_of(code), chosen, chosen_len, second, room);
-    print_made(answer, state, number, second, room);
+    int64_t answer = ptp_set_value(book, &number, &end, first, len, (uint16_t)number_of(code), chosen, chosen_len, second, room);
+    print_made(answer, state, number, end, second, room);
 }
 
 static void answer(const uint8_t *s, size_t len, uint32_t number)
@@ -378,11 +255,7 @@ static void settings_store(bool edition, const char *row, const char *entry, con
     size_t len = read_bytes(row, first), entry_len = read_bytes(entry, stored), room = number_of(room_word);
     memset(second, 0xA5, room);
     int64_t answer = ptp_settings_store(edition, first, len, stored, entry_len, second, room);
-    if (answer < 0)
-        print_refusal("no", answer, 0);
-    else
-        printf("ok %" PRId64, answer);
-    print_bytes(second, room);
+    print_written(answer, second, room);
 }
 
 static void record(const uint8_t *s, size_t len)
@@ -403,11 +276,7 @@ static void copy(const uint8_t *s, size_t len, const char *room_word)
     size_t room = number_of(room_word);
     memset(second, 0xA5, room);
     int64_t count = ptp_copy_recording(s, len, second, room, left, PTP_LEFT_NUMBERS);
-    if (count < 0)
-        print_refusal("no", count, 0);
-    else
-        printf("ok %" PRId64, count);
-    print_bytes(second, room);
+    print_written(count, second, room);
     if (count >= 0) {
         print_number(left[PTP_LEFT_RECORDS]);
         print_number(left[PTP_LEFT_BYTES]);
@@ -436,42 +305,76 @@ static void mend(const uint8_t *s, size_t len, const char *room_word, const char
     memset(starts, 0xA5, sizeof starts);
     memset(lengths, 0xA5, sizeof lengths);
     int64_t answer = ptp_mend_recording(s, len, second, room, starts, report, lengths, report, x, PTP_MENDED_NUMBERS);
-    if (answer < 0)
-        print_refusal("no", answer, 0);
-    else
-        printf("ok %" PRId64, answer);
-    print_bytes(second, room);
+    print_written(answer, second, room);
     if (answer >= 0)
         print_number(x[PTP_MENDED_STRETCHES]);
     print_runs(starts, report);
     print_runs(lengths, report);
 }
 
-/* A container is asked for as the body of a record. That refuses bytes after it, of which the question says nothing: then the body is cut to
- * the container's own length. */
-static void container(const uint8_t *s, size_t len, uint8_t *lent)
+static void container(const uint8_t *s, size_t len)
 {
-    uint64_t x[PTP_RECORD_NUMBERS];
-    for (size_t i = 0; i < 4; i++)
-        lent[i] = (uint8_t)((len + 6) >> 8 * i);
-    lent[4] = PTP_FROM_CAMERA;
-    lent[5] = 0;
-    memcpy(lent + 6, s, len);
-    int64_t answer = ptp_read_record(lent, len + 6, x, PTP_RECORD_NUMBERS);
-    if (answer == -PTP_TRAIL) {
-        container(s, word_at(s, 4), lent);
+    uint64_t x[PTP_CONTAINER_NUMBERS];
+    if (!gave(ptp_read_container(s, len, 0, x, PTP_CONTAINER_NUMBERS), 6))
         return;
-    }
-    if (answer < 0) {
-        print_refusal("no", answer, 6);
-        return;
-    }
+    if (x[PTP_CONTAINER_NEXT] != x[PTP_CONTAINER_PAYLOAD_START] + x[PTP_CONTAINER_PAYLOAD_LENGTH])
+        printf("? ");
     printf("ok");
-    print_number(x[PTP_RECORD_CONTAINER_KIND]);
-    print_number(x[PTP_RECORD_CODE]);
-    print_number(x[PTP_RECORD_NUMBER]);
-    print_number(x[PTP_RECORD_PAYLOAD_START] - x[PTP_RECORD_BODY_START]);
-    print_number(x[PTP_RECORD_PAYLOAD_LENGTH]);
+    print_number(x[PTP_CONTAINER_KIND]);
+    print_number(x[PTP_CONTAINER_CODE]);
+    print_number(x[PTP_CONTAINER_NUMBER]);
+    print_number(x[PTP_CONTAINER_PAYLOAD_START]);
+    print_number(x[PTP_CONTAINER_PAYLOAD_LENGTH]);
+}
+
+static void write_container(char *const *word)
+{
+    size_t len = read_bytes(word[4], first), room = number_of(word[5]);
+    memset(second, 0xA5, room);
+    print_written(ptp_write_container(short_of(word[1]), short_of(word[2]), number_of(word[3]), first, len, second, room), second, room);
+}
+
+static void write_record(char *const *word)
+{
+    size_t len = read_bytes(word[2], first), room = number_of(word[3]);
+    memset(second, 0xA5, room);
+    print_written(ptp_write_record(short_of(word[1]), first, len, second, room), second, room);
+}
+
+/* The text with its line ends as two characters; the line is asked for in pieces, each as long as its room. */
+static void print_piece(int64_t count)
+{
+    for (int64_t i = 0; i < count; i++)
+        if (second[i] == '\n')
+            printf("\\n");
+        else
+            putchar(second[i]);
+}
+
+static void listing(const uint8_t *s, size_t len)
+{
+    uint64_t x[PTP_LISTED_NUMBERS] = {0, 0, 0, 0};
+    printf("ok ");
+    print_piece(ptp_write_heading(second, LONGEST));
+    do {
+        size_t used = x[PTP_LISTED_PLACE];
+        int64_t count = ptp_list_window(s + used, len - used, true, x[PTP_LISTED_PLACE], x[PTP_LISTED_RECORDS], second, 200, x, PTP_LISTED_NUMBERS);
+        print_piece(count);
+    } while (x[PTP_LISTED_USED] && !x[PTP_LISTED_STOPPED]);
+    print_piece(ptp_write_ending(x[PTP_LISTED_RECORDS], x[PTP_LISTED_PLACE], second, LONGEST));
+}
+
+static void payload(const char *kind, const uint8_t *s, size_t len)
+{
+    uint64_t x[PTP_STORAGE_NUMBERS];
+    if (strcmp(kind, "object-count") == 0) {
+        if (gave(ptp_object_count(s, len, x, PTP_ONE_NUMBERS), 2))
+            printf("ok %" PRIu64, x[PTP_ONE_NUMBER]);
+    } else if (gave(ptp_handles(s, len, x, PTP_PART_NUMBERS), 3)) {
+        printf(x[PTP_PART_COUNT] ? "ok " : "ok -");
+        for (uint64_t i = 0; i < x[PTP_PART_COUNT]; i++)
+            printf("%s%" PRIu64, i ? "," : "", word_at(s + x[PTP_PART_START] + 4 * i, 4));
+    }
 }
 
 static void ask(char *const *word)
@@ -479,11 +382,19 @@ static void ask(char *const *word)
     const char *kind = word[0];
     size_t len = read_bytes(word[1], first);
     if (strcmp(kind, "device") == 0)
-        device(first, len);
+        device(first, len, true);
     else if (strcmp(kind, "object") == 0)
-        object(first, len);
+        object(first, len, true);
     else if (strcmp(kind, "storage") == 0)
-        storage(first, len);
+        storage(first, len, true);
+    else if (strcmp(kind, "device-info") == 0)
+        device(first, len, false);
+    else if (strcmp(kind, "object-info") == 0)
+        object(first, len, false);
+    else if (strcmp(kind, "storage-info") == 0)
+        storage(first, len, false);
+    else if (strcmp(kind, "handles") == 0 || strcmp(kind, "storage-ids") == 0 || strcmp(kind, "object-count") == 0)
+        payload(kind, first, len);
     else if (strcmp(kind, "property") == 0)
         property(strcmp(word[1], "book") == 0, first, read_bytes(word[2], first));
     else if (strcmp(kind, "newer") == 0)
@@ -509,7 +420,15 @@ static void ask(char *const *word)
     else if (strcmp(kind, "mend") == 0)
         mend(first, len, word[2], word[3]);
     else if (strcmp(kind, "container") == 0)
-        container(first, len, second);
+        container(first, len);
+    else if (strcmp(kind, "write-container") == 0)
+        write_container(word);
+    else if (strcmp(kind, "write-record") == 0)
+        write_record(word);
+    else if (strcmp(kind, "listing") == 0)
+        listing(first, len);
+    else if (!ask_value(kind, word))
+        ask_table(kind, word);
 }
 
 int main(void)

@@ -30,7 +30,7 @@ static uint8_t *read_hex(const char *hex, size_t *len)
 {
     static const char digits[] = "0123456789abcdef";
     *len = strlen(hex) / 2;
-    uint8_t *bytes = strlen(hex) % 2 == 0 ? malloc(*len + 1) : NULL;
+    uint8_t *bytes = strlen(hex) % 2 == 0 ? (uint8_t *)malloc(*len + 1) : NULL;
     for (size_t i = 0; bytes && i < *len; i++) {
         const char *high = strchr(digits, hex[2 * i]);
         const char *low = strchr(digits, hex[2 * i + 1]);
@@ -43,33 +43,38 @@ static uint8_t *read_hex(const char *hex, size_t *len)
     return bytes;
 }
 
-/* The place in the list of the value whose bytes are the current value's; -1 where there is none. */
-static long current_place(bool book, const uint8_t *s, size_t len, const uint64_t *prop)
+/* The value of the list, from *start to *end, that follows the one whose bytes are the current value's; false where there is none. */
+static bool next_value(const uint8_t *s, size_t len, const uint64_t *prop, size_t *start, size_t *end)
 {
-    uint64_t value[PTP_LIST_VALUE_NUMBERS];
-    for (size_t n = 0; ptp_list_value(book, s, len, n, value, PTP_LIST_VALUE_NUMBERS) > 0; n++)
-        if (value[PTP_LIST_VALUE_LENGTH] == prop[PTP_PROP_CURRENT_LENGTH] &&
-            memcmp(s + value[PTP_LIST_VALUE_START], s + prop[PTP_PROP_CURRENT_START], value[PTP_LIST_VALUE_LENGTH]) == 0)
-            return (long)n;
-    return -1;
+    uint64_t step[PTP_NEXT_NUMBERS] = {prop[PTP_PROP_LIST_START], prop[PTP_PROP_LIST_COUNT], 0, 0, 0};
+    bool seen = false;
+    if (prop[PTP_PROP_FORM] != PTP_FORM_LIST)
+        return false;
+    for (*start = step[PTP_NEXT_PLACE];; *start = *end) {
+        if (ptp_next_value(s, len, (uint16_t)prop[PTP_PROP_DATA_TYPE], *start, (uint16_t)step[PTP_NEXT_LEFT], step, PTP_NEXT_NUMBERS) <= 0)
+            return false;
+        *end = step[PTP_NEXT_PLACE];
+        if (seen)
+            return true;
+        seen = *end - *start == prop[PTP_PROP_CURRENT_LENGTH] && memcmp(s + *start, s + prop[PTP_PROP_CURRENT_START], *end - *start) == 0;
+    }
 }
 
 static int set_next(bool book, const uint8_t *s, size_t len)
 {
     uint64_t prop[PTP_PROP_NUMBERS];
+    size_t start, stop;
     int64_t answer = ptp_prop_info(book, s, len, prop, PTP_PROP_NUMBERS);
     if (answer < 0)
         return refused(answer);
-    long place = current_place(book, s, len, prop);
-    uint64_t next[PTP_LIST_VALUE_NUMBERS];
-    if (place < 0 || ptp_list_value(book, s, len, (size_t)place + 1, next, PTP_LIST_VALUE_NUMBERS) < 0) {
+    if (!next_value(s, len, prop, &start, &stop)) {
         fprintf(stderr, "no value follows the current one\n");
         return 1;
     }
     uint32_t number = 1; /* OpenSession took 0 */
+    size_t end = 0;
     uint8_t out[ROOM];
-    answer = ptp_set_value(book, &number, s, len, (uint16_t)prop[PTP_PROP_DATA_TYPE], s + next[PTP_LIST_VALUE_START], next[PTP_LIST_VALUE_LENGTH],
-                           out, ROOM);
+    answer = ptp_set_value(book, &number, &end, s, len, (uint16_t)prop[PTP_PROP_DATA_TYPE], s + start, stop - start, out, ROOM);
     if (answer < 0)
         return refused(answer);
     for (int64_t i = 0; i < answer; i++)

@@ -25,7 +25,10 @@ cp the-program "target/bin/$2"
 COMPILER = '#!/bin/sh\necho "compiled: $1 $2"\nmkdir -p target/native\ncp the-program "$2"\n'
 EMULATOR = '#!/bin/sh\nshift 3\necho "emulated: $1"\nexec "$@"\n'
 # What stands on the path besides the kit.
-TOOLS = ("awk", "cat", "dirname", "env", "find", "head", "mkdir", "mv", "od", "printf", "readlink", "realpath", "rm", "sh", "sleep", "tail", "tee", "touch", "tr", "cp", "python3")
+TOOLS = (
+    "awk", "cat", "dirname", "env", "find", "head", "install", "mkdir", "mv", "od", "printf", "readlink",
+    "realpath", "rm", "sh", "sleep", "tail", "tee", "touch", "tr", "cp", "python3",
+)
 
 
 def result(command, **words):

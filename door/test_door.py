@@ -1,12 +1,14 @@
 """What ./ptp does by itself: words, files, building, statuses. The programs are scripts: nothing need be proved for it."""
 
 import os
+import re
+import shutil
 import signal
 import subprocess
 import time
 import unittest
 
-from door.sandbox import Sandbox, read_some, result
+from door.sandbox import ROOT, Sandbox, read_some, result
 
 CAT = "#!/bin/sh\nexec cat\n"
 LISTING = "place way kind code tid bytes\n0 note 3\n9 refusal %s\nrecords 1 bytes 9\n"
@@ -29,7 +31,7 @@ class Words(Door):
         self.assertEqual((status, said), (0, ""))
         for words in (["--help"], ["-h"], ["list", "--help"], ["wrong", "-h"]):
             self.assertEqual(box.run(*words, kit=False), (0, page, ""), words)
-        commands = ("list", "copy", "mend", "settings", "ask", "compare", "rust", "bench", "wrong", "test")
+        commands = ("list", "copy", "mend", "settings", "ask", "compare", "rust", "install", "bench", "wrong", "test")
         for command in (*commands, "help"):
             self.assertIn(f"\n./ptp {command}", "\n" + page)
         for command in commands:
@@ -74,6 +76,12 @@ class Words(Door):
             self.refused(box, [command, there, box.home / "crates" / ".." / "crates.txt"], "one file")
         self.refused(box, ["rust", "word"], "word")
         self.refused(box, ["test", "word"], "word")
+        self.refused(box, ["install"], "PREFIX")
+        self.refused(box, ["install", ""], "PREFIX")
+        self.refused(box, ["install", "--prefix"], "--prefix")
+        self.refused(box, ["install", "folder", "more"], "more")
+        self.refused(box, ["install", there], str(there))
+        self.refused(box, ["install", "folder"], "no cc")
         self.refused(box, ["compare", "1", "many"], "many")
         self.refused(box, ["compare", "1", "2", "missing.rs"], "missing.rs")
         self.refused(box, ["compare", "1", "2", there, "more"], "more")
@@ -264,6 +272,68 @@ class Building(Door):
         status, out, said = box.run("list", env={"RT_REFUSES": "wire"})
         self.assertEqual((status, out), (2, ""))
         self.assertRegex(said, r"ptp: list could not be built: \S+/target/door/list.log says why\n\Z")
+
+
+class Installing(Door):
+    PLACES = ("include/ptp.h", "lib/libptp.a", "lib/libptp.so", "lib/pkgconfig/ptp.pc", "bin/ptp-list")
+
+    def library(self, compiler):
+        """With this text for cc, and a library that stands in for the proved one."""
+        box = self.built()
+        shutil.copytree(ROOT / "c", box.home / "c")
+        box.tool("cc", compiler)
+        return box
+
+    def test_each_file_in_its_place(self):
+        box = self.library('#!/bin/sh\nfor out; do :; done\necho shared >"$out"\n')
+        for prefix in ("here", "here", "a folder/below"):
+            told = "".join(f"{box.folder / prefix / place}\n" for place in self.PLACES)
+            self.assertEqual(box.run("install", prefix)[:2], (0, told))
+        self.assertEqual(box.run("install", prefix, kit=False), (0, told, ""))
+        made = [(box.folder / "here" / place).read_text() for place in self.PLACES]
+        program = (box.home / "the-program").read_text()
+        self.assertEqual(made[:3] + made[4:], [(ROOT / "c" / "ptp.h").read_text(), program, "shared\n", program])
+        self.assertIn(f"prefix={box.folder / 'here'}\n", made[3])
+        modes = [(box.folder / "here" / place).stat().st_mode & 0o777 for place in self.PLACES]
+        self.assertEqual(modes, [0o644, 0o644, 0o755, 0o644, 0o755])
+
+    def test_the_version_is_one(self):
+        header = (ROOT / "c" / "ptp.h").read_text()
+        parts = re.findall(r"#define PTP_VERSION_(?:MAJOR|MINOR|PATCH) (\d+)\n", header)
+        self.assertEqual(re.findall(r'#define PTP_VERSION "(.*)"\n', header), [".".join(parts)])
+        self.assertIn('\nversion = "%s"\n' % ".".join(parts), (ROOT / "rust" / "Cargo.toml").read_text())
+
+    def test_a_place_that_cannot_be_written_is_named(self):
+        box = self.library('#!/bin/sh\nfor out; do :; done\necho shared >"$out"\n')
+        (box.folder / "here").mkdir()
+        (box.folder / "here" / "include").write_text("no folder")
+        status, out, said = box.run("install", "here")
+        self.assertEqual((status, out), (2, ""))
+        self.assertRegex(said, r"ptp: \S+/here/include/ptp.h cannot be written\n\Z")
+
+    def test_a_shared_library_that_cannot_be_made(self):
+        box = self.library("#!/bin/sh\nexit 1\n")
+        status, out, said = box.run("install", "here")
+        self.assertEqual((status, out), (2, ""))
+        self.assertRegex(said, r"ptp: libptp.so could not be made of target/native/libptp.a\n\Z")
+        self.assertFalse((box.folder / "here").exists())
+
+    def test_a_program_is_compiled_by_the_words_of_pkg_config(self):
+        for tool in ("cc", "ar", "pkg-config"):
+            if not shutil.which(tool):
+                self.skipTest(f"{tool} is missing")
+        box = self.library(f"#!/bin/sh\nPATH='{os.environ['PATH']}' exec cc \"$@\"\n")
+        box.script(box.home / "tools" / "native", f"""#!/bin/sh
+PATH='{os.environ['PATH']}'
+mkdir -p target/native
+printf '#include "ptp.h"\\nint64_t ptp_response_place(uint16_t code) {{ return code; }}\\n' >stands.c
+cc -fPIC -I c -c stands.c -o stands.o && ar rcs "$2" stands.o
+""")
+        self.assertEqual(box.run("install", "here")[0], 0)
+        found = {**os.environ, "PKG_CONFIG_PATH": str(box.folder / "here" / "lib" / "pkgconfig"), "LD_LIBRARY_PATH": str(box.folder / "here" / "lib")}
+        (box.folder / "user.c").write_text('#include <ptp.h>\n#include <stdio.h>\nint main(void) { return printf("%s %d", PTP_VERSION, (int)ptp_response_place(7)) < 0; }\n')
+        script = 'cc -std=c99 -Wall -Wextra -pedantic -Werror user.c $(pkg-config --cflags --libs ptp) -o user && ./user && pkg-config --modversion ptp'
+        self.assertEqual(result(["sh", "-c", script], cwd=box.folder, env=found), (0, "0.1.0 70.1.0\n", ""))
 
 
 class OtherMachines(Door):

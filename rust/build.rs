@@ -2,7 +2,7 @@
 use std::env;
 use std::path::PathBuf;
 
-const ARCHIVE: &str = "libabi.a";
+const ARCHIVE: &str = "libptp.a";
 
 fn main() {
     println!("cargo:rerun-if-env-changed=PTP_ARCHIVE_DIR");
@@ -18,5 +18,5 @@ fn main() {
     };
     println!("cargo:rerun-if-changed={}", folder.join(ARCHIVE).display());
     println!("cargo:rustc-link-search=native={}", folder.display());
-    println!("cargo:rustc-link-lib=static=abi");
+    println!("cargo:rustc-link-lib=static=ptp");
 }

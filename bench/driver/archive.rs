@@ -14,9 +14,9 @@ mod archive {
         pub fn ptp_storage_info(s: *const u8, len: usize, out: *mut u64, room: usize) -> u64;
         pub fn ptp_prop_info(book: bool, s: *const u8, len: usize, out: *mut u64, room: usize) -> u64;
         pub fn ptp_tidy_property(book: bool, s: *const u8, len: usize, out: *mut u8, room: usize) -> u64;
-        pub fn ptp_command(number: *mut u32, code: u16, params: *const u32, count: usize, data: *const u8, len: usize,
+        pub fn ptp_command(number: *mut u32, end: *mut usize, code: u16, params: *const u32, count: usize, data: *const u8, len: usize,
                        with_data: bool, out: *mut u8, room: usize) -> u64;
-        pub fn ptp_set_value(book: bool, number: *mut u32, description: *const u8, description_len: usize, code: u16, value: *const u8,
+        pub fn ptp_set_value(book: bool, number: *mut u32, end: *mut usize, description: *const u8, description_len: usize, code: u16, value: *const u8,
                          value_len: usize, out: *mut u8, room: usize) -> u64;
         pub fn ptp_settings_find(second: bool, row: *const u8, row_len: usize, vendor: u32, property: u16, serial: *const u16,
                              serial_len: usize, out: *mut u64, room: usize) -> u64;
@@ -26,14 +26,19 @@ mod archive {
         pub fn ptp_paths(handles: *const u32, handle_count: usize, parents: *const u16, parent_count: usize,
                      ends: *const u32, end_count: usize, names: *const u8, len: usize, out: *mut u8, room: usize,
                      out_ends: *mut u32, out_count: usize) -> u64;
-        pub fn bench_text(s: *const u8, len: usize, out: *mut u64, room: usize) -> u64;
-        pub fn bench_utf8(s: *const u8, len: usize, out: *mut u8, room: usize) -> u64;
-        pub fn bench_header(s: *const u8, len: usize, out: *mut u64, room: usize) -> u64;
-        pub fn bench_tidy_device(s: *const u8, len: usize, out: *mut u8, room: usize) -> u64;
-        pub fn bench_tidy_object(s: *const u8, len: usize, out: *mut u8, room: usize) -> u64;
-        pub fn bench_tidy_storage(s: *const u8, len: usize, out: *mut u8, room: usize) -> u64;
-        pub fn bench_response_place(code: u16) -> u64;
-        pub fn bench_command_place(code: u16) -> u64;
+        pub fn ptp_text(s: *const u8, len: usize, at: usize, out: *mut u64, room: usize) -> u64;
+        pub fn ptp_utf8(s: *const u8, len: usize, at: usize, out: *mut u8, room: usize) -> u64;
+        pub fn ptp_read_container(s: *const u8, len: usize, at: usize, out: *mut u64, room: usize) -> u64;
+        pub fn ptp_tidy_device(s: *const u8, len: usize, out: *mut u8, room: usize) -> u64;
+        pub fn ptp_tidy_object(s: *const u8, len: usize, out: *mut u8, room: usize) -> u64;
+        pub fn ptp_tidy_storage(s: *const u8, len: usize, out: *mut u8, room: usize) -> u64;
+        pub fn ptp_response_place(code: u16) -> u64;
+        pub fn ptp_command_place(code: u16) -> u64;
+        pub fn ptp_handles(s: *const u8, len: usize, out: *mut u64, room: usize) -> u64;
+        pub fn ptp_value(s: *const u8, len: usize, at: usize, code: u16, out: *mut u64, room: usize) -> u64;
+        pub fn ptp_next_value(s: *const u8, len: usize, code: u16, at: usize, left: u16, out: *mut u64, room: usize) -> u64;
+        pub fn ptp_write_text(units: *const u16, count: usize, out: *mut u8, room: usize) -> u64;
+        pub fn ptp_write_container(kind: u16, code: u16, number: u32, payload: *const u8, len: usize, out: *mut u8, room: usize) -> u64;
     }
 
     pub unsafe extern "C" fn crate_prop_info(s: *const u8, len: usize, out: *mut u64, room: usize) -> u64 {
@@ -46,6 +51,34 @@ mod archive {
 
     pub unsafe extern "C" fn crate_tidy_property(s: *const u8, len: usize, out: *mut u8, room: usize) -> u64 {
         ptp_tidy_property(false, s, len, out, room)
+    }
+
+    pub fn text(s: &[u8], out: &mut [u64]) -> u64 {
+        unsafe { ptp_text(s.as_ptr(), s.len(), 0, out.as_mut_ptr(), out.len()) }
+    }
+
+    pub fn utf8(s: &[u8], out: &mut [u8]) -> u64 {
+        unsafe { ptp_utf8(s.as_ptr(), s.len(), 0, out.as_mut_ptr(), out.len()) }
+    }
+
+    pub fn read_container(s: &[u8], out: &mut [u64]) -> u64 {
+        unsafe { ptp_read_container(s.as_ptr(), s.len(), 0, out.as_mut_ptr(), out.len()) }
+    }
+
+    pub fn value(s: &[u8], code: u16, out: &mut [u64]) -> u64 {
+        unsafe { ptp_value(s.as_ptr(), s.len(), 0, code, out.as_mut_ptr(), out.len()) }
+    }
+
+    pub fn next_value(s: &[u8], code: u16, at: usize, left: u16, out: &mut [u64]) -> u64 {
+        unsafe { ptp_next_value(s.as_ptr(), s.len(), code, at, left, out.as_mut_ptr(), out.len()) }
+    }
+
+    pub fn write_text(units: &[u16], out: &mut [u8]) -> u64 {
+        unsafe { ptp_write_text(units.as_ptr(), units.len(), out.as_mut_ptr(), out.len()) }
+    }
+
+    pub fn write_container(kind: u16, code: u16, number: u32, payload: &[u8], out: &mut [u8]) -> u64 {
+        unsafe { ptp_write_container(kind, code, number, payload.as_ptr(), payload.len(), out.as_mut_ptr(), out.len()) }
     }
 
     pub fn numbers(f: Numbers, s: &[u8], out: &mut [u64]) -> u64 {
@@ -62,15 +95,17 @@ mod archive {
 
     pub fn make_command(number: u32, code: u16, params: &[u32], out: &mut [u8]) -> u64 {
         let mut number = number;
+        let mut end = 0;
         unsafe {
-            ptp_command(&mut number, code, params.as_ptr(), params.len(), out.as_ptr(), 0, false, out.as_mut_ptr(), out.len())
+            ptp_command(&mut number, &mut end, code, params.as_ptr(), params.len(), out.as_ptr(), 0, false, out.as_mut_ptr(), out.len())
         }
     }
 
     pub fn set_value(number: u32, description: &[u8], code: u16, value: &[u8], out: &mut [u8]) -> u64 {
         let mut number = number;
+        let mut end = 0;
         unsafe {
-            ptp_set_value(false, &mut number, description.as_ptr(), description.len(), code, value.as_ptr(), value.len(),
+            ptp_set_value(false, &mut number, &mut end, description.as_ptr(), description.len(), code, value.as_ptr(), value.len(),
                           out.as_mut_ptr(), out.len())
         }
     }

@@ -16,6 +16,7 @@ fn main() {
     containers::containers();
     trees::trees();
     names::names();
+    values::values();
     settings::settings();
     if words.len() == 4 {
         listing::listing(&listing::Programs { lists: &words[0], copies: &words[1], mends: &words[2] }, &words[3]);

@@ -13,8 +13,8 @@ mod names {
         let lengths = |their: Name, codes: std::ops::Range<u16>| -> u64 { codes.map(|code| length(their, code)).sum() };
         let responses = lengths(StandardResponseCode::name, 0x2000..0x2021);
         for &(found, before, first, count, their, at) in &[
-            ("response name found", 0, 0x2000, 33, StandardResponseCode::name as Name, bench_response_place as Place),
-            ("command name found", responses, 0x1000, 29, StandardCommandCode::name as Name, bench_command_place as Place),
+            ("response name found", 0, 0x2000, 33, StandardResponseCode::name as Name, ptp_response_place as Place),
+            ("command name found", responses, 0x1000, 29, StandardCommandCode::name as Name, ptp_command_place as Place),
         ] {
             let codes: Vec<u16> = (0..count + 3).map(|i| first + i * 17 % (count + 3)).collect();
             for &code in &codes {

@@ -57,9 +57,9 @@ mod records {
              side(|| { black_box(numbers(book_prop_info, black_box(&book), &mut fields)); }), None);
 
         for &(name, f, ref record) in &[
-            ("device record written tidy", bench_tidy_device as Bytes, &device),
-            ("object record written tidy", bench_tidy_object as Bytes, &object),
-            ("storage record written tidy", bench_tidy_storage as Bytes, &storage),
+            ("device record written tidy", ptp_tidy_device as Bytes, &device),
+            ("object record written tidy", ptp_tidy_object as Bytes, &object),
+            ("storage record written tidy", ptp_tidy_storage as Bytes, &storage),
             ("property record written tidy", crate_tidy_property as Bytes, &property),
         ] {
             let count = accepted(bytes(f, record, &mut tidy));
@@ -98,10 +98,10 @@ mod records {
             let mut out = vec![0u8; 1024];
             let read: fn(&[u8]) -> Result<String, Error> = black_box(|s| Cursor::new(s).read_ptp_str());
             assert_eq!(read(&data).expect("a string"), text);
-            let count = accepted(bytes(bench_utf8, &data, &mut out));
+            let count = accepted(utf8(&data, &mut out));
             assert_eq!(&out[..count], text.as_bytes());
             line(name, 1,
-                 side(|| { black_box(bytes(bench_utf8, black_box(&data), &mut out)); }),
+                 side(|| { black_box(utf8(black_box(&data), &mut out)); }),
                  Some(side(|| { black_box(read(black_box(&data)).is_ok()); })));
         }
     }

@@ -17,7 +17,7 @@ mod texts {
     /// Ours and theirs are the same units, and ours is the whole string.
     fn agree(data: &[u8], theirs: &str) {
         let mut part = [0u64; 3];
-        assert_eq!(accepted(numbers(bench_text, data, &mut part)), 3);
+        assert_eq!(accepted(archive::text(data, &mut part)), 3);
         assert_eq!(part[0] as usize, data.len());
         let start = part[1] as usize;
         let ours: Vec<u16> = data[start..start + 2 * part[2] as usize].chunks(2).map(|c| u16::from_le_bytes([c[0], c[1]])).collect();
@@ -38,7 +38,7 @@ mod texts {
             agree(&data, &read(&data).expect("a string"));
             let mut part = [0u64; 3];
             line(name, 1,
-                 side(|| { black_box(numbers(bench_text, black_box(&data), &mut part)); }),
+                 side(|| { black_box(archive::text(black_box(&data), &mut part)); }),
                  Some(side(|| { black_box(read(black_box(&data)).is_ok()); })));
         }
     }
@@ -70,7 +70,7 @@ mod texts {
         }
         let mut part = [0u64; 3];
         line("1,000,000 names of 8 to 24 units read, each", all.len(),
-             side(|| for data in &all { black_box(numbers(bench_text, black_box(data), &mut part)); }),
+             side(|| for data in &all { black_box(archive::text(black_box(data), &mut part)); }),
              Some(side(|| for data in &all { black_box(read(black_box(data)).is_ok()); })));
     }
 }

@@ -13,6 +13,9 @@ use crate::refusal::Refusal;
 const _: () = assert!(usize::BITS == 64);
 
 type ReadsBytes = unsafe extern "C" fn(*const u8, usize, *mut u64, usize) -> i64;
+type ReadsPlace = unsafe extern "C" fn(*const u8, usize, usize, *mut u64, usize) -> i64;
+type WritesBytes = unsafe extern "C" fn(*const u8, usize, *mut u8, usize) -> i64;
+type WritesTyped = unsafe extern "C" fn(u16, *const u8, usize, *mut u8, usize) -> i64;
 
 /// Enable in a property's row where the layout has no such byte: no byte is 256.
 pub(crate) const ENABLE_ABSENT: u64 = 256;
@@ -22,6 +25,64 @@ extern "C" {
     fn ptp_object_info(s: *const u8, s_len: usize, out: *mut u64, out_len: usize) -> i64;
     fn ptp_storage_info(s: *const u8, s_len: usize, out: *mut u64, out_len: usize) -> i64;
     fn ptp_prop_info(book: bool, s: *const u8, s_len: usize, out: *mut u64, out_len: usize) -> i64;
+    fn ptp_handles(s: *const u8, s_len: usize, out: *mut u64, out_len: usize) -> i64;
+    fn ptp_object_count(s: *const u8, s_len: usize, out: *mut u64, out_len: usize) -> i64;
+    fn ptp_storage_payload(s: *const u8, s_len: usize, out: *mut u64, out_len: usize) -> i64;
+    fn ptp_value(s: *const u8, s_len: usize, at: usize, code: u16, out: *mut u64, out_len: usize) -> i64;
+    fn ptp_item(s: *const u8, s_len: usize, at: usize, code: u16, n: usize, out: *mut u64, out_len: usize) -> i64;
+    fn ptp_text(s: *const u8, s_len: usize, at: usize, out: *mut u64, out_len: usize) -> i64;
+    fn ptp_unit(s: *const u8, s_len: usize, at: usize, n: usize, out: *mut u64, out_len: usize) -> i64;
+    fn ptp_utf8_len(s: *const u8, s_len: usize, at: usize, out: *mut u64, out_len: usize) -> i64;
+    fn ptp_utf8(s: *const u8, s_len: usize, at: usize, out: *mut u8, out_len: usize) -> i64;
+    fn ptp_next_value(s: *const u8, s_len: usize, code: u16, at: usize, left: u16, out: *mut u64, out_len: usize) -> i64;
+    fn ptp_write_integer(code: u16, low: u64, high: u64, out: *mut u8, out_len: usize) -> i64;
+    fn ptp_write_text(units: *const u16, units_len: usize, out: *mut u8, out_len: usize) -> i64;
+    fn ptp_write_array(code: u16, items: *const u8, items_len: usize, out: *mut u8, out_len: usize) -> i64;
+    fn ptp_tidy_value(code: u16, s: *const u8, s_len: usize, out: *mut u8, out_len: usize) -> i64;
+    fn ptp_tidy_device(s: *const u8, s_len: usize, out: *mut u8, out_len: usize) -> i64;
+    fn ptp_tidy_object(s: *const u8, s_len: usize, out: *mut u8, out_len: usize) -> i64;
+    fn ptp_tidy_storage(s: *const u8, s_len: usize, out: *mut u8, out_len: usize) -> i64;
+    fn ptp_read_container(s: *const u8, s_len: usize, at: usize, out: *mut u64, out_len: usize) -> i64;
+    fn ptp_write_container(
+        kind: u16,
+        code: u16,
+        number: u32,
+        payload: *const u8,
+        payload_len: usize,
+        out: *mut u8,
+        out_len: usize,
+    ) -> i64;
+    fn ptp_write_record(kind: u16, body: *const u8, body_len: usize, out: *mut u8, out_len: usize) -> i64;
+    fn ptp_write_heading(out: *mut u8, out_len: usize) -> i64;
+    fn ptp_list_window(
+        s: *const u8,
+        s_len: usize,
+        last: bool,
+        place: u64,
+        records: u64,
+        out: *mut u8,
+        out_len: usize,
+        counts: *mut u64,
+        counts_len: usize,
+    ) -> i64;
+    fn ptp_write_ending(records: u64, place: u64, out: *mut u8, out_len: usize) -> i64;
+    fn ptp_response_place(code: u16) -> i64;
+    fn ptp_command_place(code: u16) -> i64;
+    #[cfg(test)] // what it gives stands in code.rs
+    fn ptp_name_bytes(out: *mut u8, out_len: usize) -> i64;
+    fn ptp_path(
+        handles: *const u32,
+        handles_len: usize,
+        parents: *const u16,
+        parents_len: usize,
+        ends: *const u32,
+        ends_len: usize,
+        names: *const u8,
+        names_len: usize,
+        place: usize,
+        out: *mut u8,
+        out_len: usize,
+    ) -> i64;
     fn ptp_read_record(s: *const u8, s_len: usize, out: *mut u64, out_len: usize) -> i64;
     fn ptp_copy_recording(s: *const u8, s_len: usize, out: *mut u8, out_len: usize, left: *mut u64, left_len: usize) -> i64;
     fn ptp_mend_recording(
@@ -49,6 +110,7 @@ extern "C" {
     fn ptp_tidy_property(book: bool, s: *const u8, s_len: usize, out: *mut u8, out_len: usize) -> i64;
     fn ptp_command(
         number: *mut u32,
+        end: *mut usize,
         code: u16,
         params: *const u32,
         params_len: usize,
@@ -61,6 +123,7 @@ extern "C" {
     fn ptp_set_value(
         book: bool,
         number: *mut u32,
+        end: *mut usize,
         description: *const u8,
         description_len: usize,
         code: u16,
@@ -120,13 +183,24 @@ extern "C" {
     ) -> i64;
 }
 
-// How many were given, or minus (the refusal's number and 256 times its place). No slice has 2^55 bytes, so the place is exact.
+// How many were given, or minus (the refusal's number and 256 times its place). No slice has 2^55 bytes, so the place is exact, but for one that
+// the caller gave: see `told_at`.
 fn told(answer: i64) -> Result<usize, Refusal> {
     if answer >= 0 {
         return Ok(answer as usize);
     }
     let refusal = answer.unsigned_abs();
     Err(Refusal::from_number(refusal % 256, (refusal / 256) as usize).expect("the archive refuses by 1 to 18"))
+}
+
+// The farthest place that the archive tells. Only one that the caller gave can be as far, where nothing can be read: then the refusal is of it.
+const FARTHEST: usize = (1 << 55) - 1;
+
+fn told_at(at: usize, answer: i64) -> Result<usize, Refusal> {
+    told(answer).map_err(|why| match why {
+        Refusal::END { at: FARTHEST } => Refusal::END { at },
+        other => other,
+    })
 }
 
 // `f` is one of the archive's.
@@ -138,6 +212,158 @@ fn read<const N: usize>(f: ReadsBytes, s: &[u8]) -> Result<[u64; N], Refusal> {
     let mut out = [0; N];
     read_into(f, s, &mut out)?;
     Ok(out)
+}
+
+// At a place of the bytes.
+fn read_at<const N: usize>(f: ReadsPlace, s: &[u8], at: usize) -> Result<[u64; N], Refusal> {
+    let mut out = [0; N];
+    told_at(at, unsafe { f(s.as_ptr(), s.len(), at, out.as_mut_ptr(), out.len()) })?;
+    Ok(out)
+}
+
+fn write(f: WritesBytes, s: &[u8], out: &mut [u8]) -> Result<usize, Refusal> {
+    told(unsafe { f(s.as_ptr(), s.len(), out.as_mut_ptr(), out.len()) })
+}
+
+fn write_typed(f: WritesTyped, code: u16, s: &[u8], out: &mut [u8]) -> Result<usize, Refusal> {
+    told(unsafe { f(code, s.as_ptr(), s.len(), out.as_mut_ptr(), out.len()) })
+}
+
+pub(crate) fn handles(s: &[u8]) -> Result<[u64; 3], Refusal> {
+    read(ptp_handles, s)
+}
+
+pub(crate) fn object_count(s: &[u8]) -> Result<[u64; 2], Refusal> {
+    read(ptp_object_count, s)
+}
+
+pub(crate) fn storage_payload(s: &[u8]) -> Result<[u64; 11], Refusal> {
+    read(ptp_storage_payload, s)
+}
+
+pub(crate) fn value(s: &[u8], at: usize, code: u16) -> Result<[u64; 4], Refusal> {
+    let mut out = [0; 4];
+    told_at(at, unsafe { ptp_value(s.as_ptr(), s.len(), at, code, out.as_mut_ptr(), out.len()) })?;
+    Ok(out)
+}
+
+pub(crate) fn item(s: &[u8], at: usize, code: u16, n: usize) -> Result<[u64; 4], Refusal> {
+    let mut out = [0; 4];
+    told_at(at, unsafe { ptp_item(s.as_ptr(), s.len(), at, code, n, out.as_mut_ptr(), out.len()) })?;
+    Ok(out)
+}
+
+pub(crate) fn text(s: &[u8], at: usize) -> Result<[u64; 3], Refusal> {
+    read_at(ptp_text, s, at)
+}
+
+pub(crate) fn unit(s: &[u8], at: usize, n: usize) -> Result<[u64; 2], Refusal> {
+    let mut out = [0; 2];
+    told_at(at, unsafe { ptp_unit(s.as_ptr(), s.len(), at, n, out.as_mut_ptr(), out.len()) })?;
+    Ok(out)
+}
+
+pub(crate) fn utf8_len(s: &[u8], at: usize) -> Result<[u64; 2], Refusal> {
+    read_at(ptp_utf8_len, s, at)
+}
+
+pub(crate) fn utf8(s: &[u8], at: usize, out: &mut [u8]) -> Result<usize, Refusal> {
+    told_at(at, unsafe { ptp_utf8(s.as_ptr(), s.len(), at, out.as_mut_ptr(), out.len()) })
+}
+
+/// The place after the value, how many are left, and the value; `None` where the list has ended.
+pub(crate) fn next_value(s: &[u8], code: u16, at: usize, left: u16) -> Option<[u64; 5]> {
+    let mut out = [0; 5];
+    let count = told(unsafe { ptp_next_value(s.as_ptr(), s.len(), code, at, left, out.as_mut_ptr(), out.len()) });
+    (count == Ok(5)).then_some(out)
+}
+
+pub(crate) fn write_integer(code: u16, low: u64, high: u64, out: &mut [u8]) -> Result<usize, Refusal> {
+    told(unsafe { ptp_write_integer(code, low, high, out.as_mut_ptr(), out.len()) })
+}
+
+pub(crate) fn write_text(units: &[u16], out: &mut [u8]) -> Result<usize, Refusal> {
+    told(unsafe { ptp_write_text(units.as_ptr(), units.len(), out.as_mut_ptr(), out.len()) })
+}
+
+pub(crate) fn write_array(code: u16, items: &[u8], out: &mut [u8]) -> Result<usize, Refusal> {
+    write_typed(ptp_write_array, code, items, out)
+}
+
+pub(crate) fn tidy_value(code: u16, s: &[u8], out: &mut [u8]) -> Result<usize, Refusal> {
+    write_typed(ptp_tidy_value, code, s, out)
+}
+
+pub(crate) fn tidy_device(s: &[u8], out: &mut [u8]) -> Result<usize, Refusal> {
+    write(ptp_tidy_device, s, out)
+}
+
+pub(crate) fn tidy_object(s: &[u8], out: &mut [u8]) -> Result<usize, Refusal> {
+    write(ptp_tidy_object, s, out)
+}
+
+pub(crate) fn tidy_storage(s: &[u8], out: &mut [u8]) -> Result<usize, Refusal> {
+    write(ptp_tidy_storage, s, out)
+}
+
+pub(crate) fn read_container(s: &[u8], at: usize) -> Result<[u64; 6], Refusal> {
+    read_at(ptp_read_container, s, at)
+}
+
+pub(crate) fn write_container(kind: u16, code: u16, number: u32, payload: &[u8], out: &mut [u8]) -> Result<usize, Refusal> {
+    told(unsafe { ptp_write_container(kind, code, number, payload.as_ptr(), payload.len(), out.as_mut_ptr(), out.len()) })
+}
+
+pub(crate) fn write_record(kind: u16, body: &[u8], out: &mut [u8]) -> Result<usize, Refusal> {
+    write_typed(ptp_write_record, kind, body, out)
+}
+
+pub(crate) fn write_heading(out: &mut [u8]) -> Result<usize, Refusal> {
+    told(unsafe { ptp_write_heading(out.as_mut_ptr(), out.len()) })
+}
+
+/// The bytes written; then the bytes used, the place and the records after them, and whether a refusal ended the listing.
+pub(crate) fn list_window(s: &[u8], last: bool, place: u64, records: u64, out: &mut [u8]) -> (usize, [u64; 4]) {
+    let mut counts = [0; 4];
+    let count = told(unsafe {
+        ptp_list_window(s.as_ptr(), s.len(), last, place, records, out.as_mut_ptr(), out.len(), counts.as_mut_ptr(), counts.len())
+    });
+    (count.expect("the counts have room"), counts)
+}
+
+pub(crate) fn write_ending(records: u64, place: u64, out: &mut [u8]) -> Result<usize, Refusal> {
+    told(unsafe { ptp_write_ending(records, place, out.as_mut_ptr(), out.len()) })
+}
+
+/// A name's start and length in the name bytes.
+pub(crate) fn response_place(code: u16) -> Option<(usize, usize)> {
+    place(unsafe { ptp_response_place(code) })
+}
+
+pub(crate) fn command_place(code: u16) -> Option<(usize, usize)> {
+    place(unsafe { ptp_command_place(code) })
+}
+
+fn place(word: i64) -> Option<(usize, usize)> {
+    (word != 0).then_some((word as usize / 65536, word as usize % 65536))
+}
+
+pub(crate) fn path(handles: &[u32], parents: &[u16], ends: &[u32], names: &[u8], place: usize, out: &mut [u8]) -> Result<usize, Refusal> {
+    told(unsafe {
+        ptp_path(
+            handles.as_ptr(),
+            handles.len(),
+            parents.as_ptr(),
+            parents.len(),
+            ends.as_ptr(),
+            ends.len(),
+            names.as_ptr(),
+            names.len(),
+            place,
+            out.as_mut_ptr(),
+            out.len(),
+        )
+    })
 }
 
 pub(crate) fn device_info(s: &[u8]) -> Result<[u64; 25], Refusal> {
@@ -213,11 +439,20 @@ pub(crate) fn tidy_property(book: bool, s: &[u8], out: &mut [u8]) -> Result<usiz
     told(unsafe { ptp_tidy_property(book, s.as_ptr(), s.len(), out.as_mut_ptr(), out.len()) })
 }
 
-pub(crate) fn command(number: &mut u32, code: u16, params: &[u32], data: Option<&[u8]>, out: &mut [u8]) -> Result<usize, Refusal> {
+/// The bytes written, and how many of them are the Command.
+pub(crate) fn command(
+    number: &mut u32,
+    code: u16,
+    params: &[u32],
+    data: Option<&[u8]>,
+    out: &mut [u8],
+) -> Result<(usize, usize), Refusal> {
     let bytes = data.unwrap_or(&[]);
-    told(unsafe {
+    let mut end = 0;
+    let count = told(unsafe {
         ptp_command(
             number,
+            &mut end,
             code,
             params.as_ptr(),
             params.len(),
@@ -227,7 +462,8 @@ pub(crate) fn command(number: &mut u32, code: u16, params: &[u32], data: Option<
             out.as_mut_ptr(),
             out.len(),
         )
-    })
+    })?;
+    Ok((count, end))
 }
 
 pub(crate) fn set_value(
@@ -237,11 +473,13 @@ pub(crate) fn set_value(
     code: u16,
     value: &[u8],
     out: &mut [u8],
-) -> Result<usize, Refusal> {
-    told(unsafe {
+) -> Result<(usize, usize), Refusal> {
+    let mut end = 0;
+    let count = told(unsafe {
         ptp_set_value(
             book,
             number,
+            &mut end,
             description.as_ptr(),
             description.len(),
             code,
@@ -250,7 +488,8 @@ pub(crate) fn set_value(
             out.as_mut_ptr(),
             out.len(),
         )
-    })
+    })?;
+    Ok((count, end))
 }
 
 pub(crate) fn find_answer(s: &[u8], number: u32) -> Result<[u64; 4], Refusal> {
@@ -385,6 +624,19 @@ mod tests {
         ptp_settings_find(true, s, s_len, 6, 1, [].as_ptr(), 0, out, out_len)
     }
 
+    // The room of the stretches' count, which mend_recording brings itself.
+    #[test]
+    fn mending_needs_room_for_its_count() {
+        let (mut out, mut starts, mut lengths, mut counts) = ([9; 8], [KEPT; 2], [KEPT; 2], [KEPT; 2]);
+        for (room, answer) in [(0, -9), (1, 6), (2, 6)] {
+            let s = [255, 6, 0, 0, 0, 3, 0];
+            let (out, starts, lengths) = (out.as_mut_ptr(), starts.as_mut_ptr(), lengths.as_mut_ptr());
+            let told = unsafe { ptp_mend_recording(s.as_ptr(), 7, out, 8, starts, 2, lengths, 2, counts.as_mut_ptr(), room) };
+            assert_eq!((told, counts), (answer, if room == 0 { [KEPT; 2] } else { [1, KEPT] }));
+        }
+        assert_eq!((out, starts, lengths), ([6, 0, 0, 0, 3, 0, 9, 9], [0, KEPT], [1, KEPT]));
+    }
+
     // A note and an empty Response: room for the copy and not for the two numbers, and the other way round.
     #[test]
     fn a_copy_needs_both_its_outputs() {
@@ -401,19 +653,6 @@ mod tests {
         assert_eq!(copied(&s[..24], 18, 0), (Err(Refusal::END { at: 13 }), [0xA5; 20], [KEPT; 3]));
         let (answer, out, left) = copied(&s, 20, 3);
         assert_eq!((answer, &out[..18], &out[18..], left), (Ok(18), &s[7..], &[0xA5; 2][..], [1, 7, KEPT]));
-}
-
-    // The room of the stretches' count, which mend_recording brings itself.
-    #[test]
-    fn mending_needs_room_for_its_count() {
-        let (mut out, mut starts, mut lengths, mut counts) = ([9; 8], [KEPT; 2], [KEPT; 2], [KEPT; 2]);
-        for (room, answer) in [(0, -9), (1, 6), (2, 6)] {
-            let s = [255, 6, 0, 0, 0, 3, 0];
-            let (out, starts, lengths) = (out.as_mut_ptr(), starts.as_mut_ptr(), lengths.as_mut_ptr());
-            let told = unsafe { ptp_mend_recording(s.as_ptr(), 7, out, 8, starts, 2, lengths, 2, counts.as_mut_ptr(), room) };
-            assert_eq!((told, counts), (answer, if room == 0 { [KEPT; 2] } else { [1, KEPT] }));
-        }
-        assert_eq!((out, starts, lengths), ([6, 0, 0, 0, 3, 0, 9, 9], [0, KEPT], [1, KEPT]));
     }
 
     #[test]
@@ -432,5 +671,14 @@ mod tests {
             assert_eq!(read_into(f, &[6], &mut out), Err(Refusal::END { at: 0 }));
             assert_eq!(out, [KEPT; 32]);
         }
+    }
+
+    // The names in Rust are the proved ones, and each place lies within them.
+    #[test]
+    fn names_are_those_of_the_archive() {
+        let mut bytes = [0; 975];
+        assert_eq!(told(unsafe { ptp_name_bytes(bytes.as_mut_ptr(), 974) }), Err(Refusal::ROOM));
+        assert_eq!(told(unsafe { ptp_name_bytes(bytes.as_mut_ptr(), bytes.len()) }), Ok(975));
+        assert_eq!(crate::code::NAMES.as_bytes(), bytes);
     }
 }

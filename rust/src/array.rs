@@ -38,7 +38,7 @@ impl PtpItem for (u64, u64) {
 }
 
 /// The items of an array, read from the caller's bytes as they are asked for.
-#[derive(Clone, Copy, PartialEq, Eq)]
+#[derive(Clone, Copy, PartialEq, Eq, Hash)]
 pub struct PtpArray<'a, T> {
     bytes: &'a [u8],
     item: PhantomData<T>,
@@ -46,6 +46,13 @@ pub struct PtpArray<'a, T> {
 
 /// An array's items, one after the other.
 pub type Items<'a, T> = core::iter::Map<ChunksExact<'a, u8>, fn(&'a [u8]) -> T>;
+
+impl<'a, T> PtpArray<'a, T> {
+    // The bytes of the items.
+    pub(crate) fn bytes(&self) -> &'a [u8] {
+        self.bytes
+    }
+}
 
 impl<'a, T: PtpItem> PtpArray<'a, T> {
     // The bytes are those of the items, without a count.
@@ -64,15 +71,26 @@ impl<'a, T: PtpItem> PtpArray<'a, T> {
 
     /// Item `n`, from 0.
     pub fn get(&self, n: usize) -> Option<T> {
-        self.iter().nth(n)
+        let start = n.checked_mul(T::SIZE)?;
+        Some(T::read(self.bytes.get(start..start.checked_add(T::SIZE)?)?))
     }
 
+    /// In order; one step costs one item.
     pub fn iter(&self) -> Items<'a, T> {
         self.bytes.chunks_exact(T::SIZE).map(T::read)
     }
 }
 
 impl<'a, T: PtpItem> IntoIterator for PtpArray<'a, T> {
+    type Item = T;
+    type IntoIter = Items<'a, T>;
+
+    fn into_iter(self) -> Items<'a, T> {
+        self.iter()
+    }
+}
+
+impl<'a, T: PtpItem> IntoIterator for &PtpArray<'a, T> {
     type Item = T;
     type IntoIter = Items<'a, T>;
 

@@ -171,8 +171,12 @@ pub struct PtpStorageInfo<'a> {
 impl<'a> PtpStorageInfo<'a> {
     /// The record that begins these bytes, and how many it takes. Refusals: END, TEXT.
     pub fn decode(s: &'a [u8]) -> Result<(Self, usize), Refusal> {
-        let numbers = archive::storage_info(s)?;
-        let mut row = Row::new(s, &numbers);
+        Ok(PtpStorageInfo::of(s, &archive::storage_info(s)?))
+    }
+
+    // By its numbers, the length taken first.
+    pub(crate) fn of(s: &'a [u8], numbers: &[u64; 11]) -> (Self, usize) {
+        let mut row = Row::new(s, numbers);
         let taken = row.size();
         let info = PtpStorageInfo {
             StorageType: row.short(),
@@ -184,6 +188,6 @@ impl<'a> PtpStorageInfo<'a> {
             StorageDescription: row.text(),
             VolumeLabel: row.text(),
         };
-        Ok((info, taken))
+        (info, taken)
     }
 }

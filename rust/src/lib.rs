@@ -12,9 +12,13 @@
 
 mod archive;
 mod array;
+mod code;
 mod dataset;
+mod listing;
 mod mending;
+mod payload;
 mod property;
+mod reader;
 mod record;
 mod refusal;
 mod session;
@@ -22,15 +26,24 @@ mod settings;
 mod text;
 mod tree;
 mod value;
+mod writer;
 
 pub use array::{Items, PtpArray, PtpItem};
+pub use code::{CommandCode, ResponseCode, StandardCommandCode, StandardResponseCode};
 pub use dataset::{PtpDeviceInfo, PtpObjectInfo, PtpStorageInfo};
+pub use listing::{list_recording, list_window, write_ending, write_heading, Listed, Tally};
 pub use mending::{mend_recording, Mended};
+pub use payload::{object_count, object_handles, storage_ids, storage_info};
 pub use property::{newer_value, tidy_property, Newer, PropLayout, PtpFormData, PtpPropInfo, PtpValues, Values};
-pub use record::{copy_recording, read_record, Copied, PtpContainer, PtpContainerType, PtpRecord, RecordKind};
+pub use reader::{item, unit, PtpReader};
+pub use record::{
+    copy_recording, read_container, read_record, write_container, write_record, Copied, PtpContainer, PtpContainerType, PtpRecord, RecordKind,
+    Recorder,
+};
 pub use refusal::Refusal;
-pub use session::{find_answer, Answer, Made, Session, StandardCommandCode, StandardResponseCode};
+pub use session::{find_answer, Answer, Made, Session};
 pub use settings::{entry_bytes, Edition, Entries, Kept, Setting, Settings};
-pub use text::PtpString;
+pub use text::{utf8, utf8_len, PtpString};
 pub use tree::{ObjectTable, Paths};
 pub use value::{PtpDataType, PtpValue};
+pub use writer::{tidy_device, tidy_object, tidy_storage, tidy_value, write_array, write_text};

@@ -2,7 +2,7 @@
 use crate::archive;
 use crate::dataset::Row;
 use crate::refusal::Refusal;
-use crate::value::{self, PtpValue};
+use crate::value::PtpValue;
 
 /// Which layout a description has. The caller names it: some bytes fit both, and nothing guesses.
 #[derive(Clone, Copy, Debug, PartialEq, Eq)]
@@ -119,38 +119,49 @@ impl<'a> PtpValues<'a> {
 
     /// All values, in order, in one pass.
     pub fn iter(&self) -> Values<'a> {
-        Values { code: self.code, rest: self.bytes, left: self.count }
+        Values { code: self.code, bytes: self.bytes, place: 0, left: self.count as u16 }
     }
 }
 
-/// A list's values, one after the other.
-///
-/// The archive has found that `left` whole values lie in `rest`; each says itself how long it is.
+/// A list's values, one after the other: each step is the archive's, and all steps cost what the list's bytes cost.
 #[derive(Clone)]
 pub struct Values<'a> {
     code: u16,
-    rest: &'a [u8],
-    left: usize,
+    bytes: &'a [u8],
+    place: usize,
+    left: u16,
 }
 
 impl<'a> Iterator for Values<'a> {
     type Item = PtpValue<'a>;
 
     fn next(&mut self) -> Option<PtpValue<'a>> {
-        self.left = self.left.checked_sub(1)?;
-        let (first, rest) = self.rest.split_at(value::length(self.code, self.rest));
-        self.rest = rest;
-        Some(PtpValue::new(self.code, first))
+        let [next, left, ..] = archive::next_value(self.bytes, self.code, self.place, self.left)?;
+        let next = next as usize;
+        let value = PtpValue::new(self.code, &self.bytes[self.place..next]);
+        (self.place, self.left) = (next, left as u16);
+        Some(value)
     }
 
     fn size_hint(&self) -> (usize, Option<usize>) {
-        (self.left, Some(self.left))
+        (self.left.into(), Some(self.left.into()))
     }
 }
+
+impl core::iter::FusedIterator for Values<'_> {}
 
 impl ExactSizeIterator for Values<'_> {}
 
 impl<'a> IntoIterator for PtpValues<'a> {
+    type Item = PtpValue<'a>;
+    type IntoIter = Values<'a>;
+
+    fn into_iter(self) -> Values<'a> {
+        self.iter()
+    }
+}
+
+impl<'a> IntoIterator for &PtpValues<'a> {
     type Item = PtpValue<'a>;
     type IntoIter = Values<'a>;
 

@@ -1,43 +1,33 @@
 //! Commands of a session, and the search for an answer.
 use crate::archive;
+use crate::code::{StandardCommandCode, StandardResponseCode};
 use crate::dataset::Row;
 use crate::property::PropLayout;
 use crate::refusal::Refusal;
 
-/// The commands that are spoken of here, by their names in ptp 0.5.0.
-#[allow(non_upper_case_globals)]
-pub mod StandardCommandCode {
-    pub const GetDeviceInfo: u16 = 0x1001;
-    pub const OpenSession: u16 = 0x1002;
-    pub const CloseSession: u16 = 0x1003;
-    pub const GetStorageIDs: u16 = 0x1004;
-    pub const GetStorageInfo: u16 = 0x1005;
-    pub const GetNumObjects: u16 = 0x1006;
-    pub const GetObjectHandles: u16 = 0x1007;
-    pub const GetObjectInfo: u16 = 0x1008;
-    pub const GetObject: u16 = 0x1009;
-    pub const GetDevicePropDesc: u16 = 0x1014;
-    pub const GetDevicePropValue: u16 = 0x1015;
-    pub const SetDevicePropValue: u16 = 0x1016;
-}
-
-/// The Response that brings a payload.
-#[allow(non_upper_case_globals)]
-pub mod StandardResponseCode {
-    pub const Ok: u16 = 0x2001;
-}
-
 /// A command that was made: the number that it was sent with, which its answer carries, and its bytes.
-#[derive(Clone, Copy, Debug, PartialEq, Eq)]
+#[derive(Clone, Copy, Debug, PartialEq, Eq, Hash)]
 pub struct Made<'o> {
     pub number: u32,
     pub bytes: &'o [u8],
+    end: usize,
 }
 
 impl<'o> Made<'o> {
     // A command's bytes tell its number.
-    fn of(bytes: &'o [u8]) -> Made<'o> {
-        Made { number: u32::from_le_bytes([bytes[8], bytes[9], bytes[10], bytes[11]]), bytes }
+    fn of((count, end): (usize, usize), out: &'o [u8]) -> Made<'o> {
+        let bytes = &out[..count];
+        Made { number: u32::from_le_bytes([bytes[8], bytes[9], bytes[10], bytes[11]]), bytes, end }
+    }
+
+    /// The Command container: one transfer to the camera, and one record of a recording.
+    pub fn command(&self) -> &'o [u8] {
+        &self.bytes[..self.end]
+    }
+
+    /// The Data container behind it: another transfer, and another record. Empty where the command has no data.
+    pub fn data(&self) -> &'o [u8] {
+        &self.bytes[self.end..]
     }
 }
 
@@ -94,13 +84,13 @@ impl Session {
         value: &[u8],
         out: &'o mut [u8],
     ) -> Result<Made<'o>, Refusal> {
-        let count = archive::set_value(layout.is_book(), &mut self.number, description, code, value, out)?;
-        Ok(Made::of(&out[..count]))
+        let made = archive::set_value(layout.is_book(), &mut self.number, description, code, value, out)?;
+        Ok(Made::of(made, out))
     }
 
     fn make<'o>(&mut self, code: u16, params: &[u32], data: Option<&[u8]>, out: &'o mut [u8]) -> Result<Made<'o>, Refusal> {
-        let count = archive::command(&mut self.number, code, params, data, out)?;
-        Ok(Made::of(&out[..count]))
+        let made = archive::command(&mut self.number, code, params, data, out)?;
+        Ok(Made::of(made, out))
     }
 }
 
@@ -144,6 +134,26 @@ impl Session {
         out: &'o mut [u8],
     ) -> Result<Made<'o>, Refusal> {
         self.command(StandardCommandCode::GetObjectHandles, &[storage_id, filter.unwrap_or(0), handle_id], out)
+    }
+
+    /// Of all objects of the storage.
+    pub fn get_numobjects_all<'o>(&mut self, storage_id: u32, filter: Option<u32>, out: &'o mut [u8]) -> Result<Made<'o>, Refusal> {
+        self.get_numobjects(storage_id, 0, filter, out)
+    }
+
+    /// Of those that stand in no folder.
+    pub fn get_numobjects_roots<'o>(&mut self, storage_id: u32, filter: Option<u32>, out: &'o mut [u8]) -> Result<Made<'o>, Refusal> {
+        self.get_numobjects(storage_id, 0xFFFFFFFF, filter, out)
+    }
+
+    /// Of all objects of the storage.
+    pub fn get_objecthandles_all<'o>(&mut self, storage_id: u32, filter: Option<u32>, out: &'o mut [u8]) -> Result<Made<'o>, Refusal> {
+        self.get_objecthandles(storage_id, 0, filter, out)
+    }
+
+    /// Of those that stand in no folder.
+    pub fn get_objecthandles_root<'o>(&mut self, storage_id: u32, filter: Option<u32>, out: &'o mut [u8]) -> Result<Made<'o>, Refusal> {
+        self.get_objecthandles(storage_id, 0xFFFFFFFF, filter, out)
     }
 
     pub fn get_objectinfo<'o>(&mut self, handle: u32, out: &'o mut [u8]) -> Result<Made<'o>, Refusal> {

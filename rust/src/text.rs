@@ -1,9 +1,11 @@
 //! A string's units, in the caller's bytes.
+use crate::archive;
 use crate::array::PtpArray;
+use crate::refusal::Refusal;
 use core::fmt::{self, Write};
 
 /// A string that was read: UTF-16 units without an unpaired surrogate. The last, unread unit is no part of it.
-#[derive(Clone, Copy, PartialEq, Eq)]
+#[derive(Clone, Copy, PartialEq, Eq, Hash)]
 pub struct PtpString<'a> {
     units: PtpArray<'a, u16>,
 }
@@ -33,6 +35,17 @@ impl<'a> PtpString<'a> {
     }
 }
 
+/// The UTF-8 of the string at a place of the bytes, at the front of the output. Refusals: END, TEXT; ROOM.
+pub fn utf8<'o>(s: &[u8], at: usize, out: &'o mut [u8]) -> Result<&'o str, Refusal> {
+    let count = archive::utf8(s, at, out)?;
+    Ok(core::str::from_utf8(&out[..count]).expect("it is UTF-8"))
+}
+
+/// How long it is in UTF-8, and the place after the string. Refusals: END, TEXT.
+pub fn utf8_len(s: &[u8], at: usize) -> Result<(usize, usize), Refusal> {
+    archive::utf8_len(s, at).map(|[next, length]| (length as usize, next as usize))
+}
+
 impl PartialEq<str> for PtpString<'_> {
     fn eq(&self, other: &str) -> bool {
         self.chars().eq(other.chars())
@@ -47,7 +60,17 @@ impl PartialEq<&str> for PtpString<'_> {
 
 impl fmt::Display for PtpString<'_> {
     fn fmt(&self, f: &mut fmt::Formatter<'_>) -> fmt::Result {
-        self.chars().try_for_each(|c| f.write_char(c))
+        // a width counts characters, as that of a `str` does
+        let missing = f.width().unwrap_or(0).saturating_sub(self.chars().count());
+        let before = match f.align() {
+            Some(fmt::Alignment::Right) => missing,
+            Some(fmt::Alignment::Center) => missing / 2,
+            _ => 0,
+        };
+        let fill = f.fill();
+        (0..before).try_for_each(|_| f.write_char(fill))?;
+        self.chars().try_for_each(|c| f.write_char(c))?;
+        (before..missing).try_for_each(|_| f.write_char(fill))
     }
 }
 

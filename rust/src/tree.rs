@@ -21,6 +21,12 @@ impl ObjectTable<'_> {
         Ok(&places[..count])
     }
 
+    /// The path of one place. It checks the whole table: for all paths ask [`paths`](Self::paths). Refusals: those of the walk; PLACE; ROOM.
+    pub fn path<'o>(&self, place: usize, out: &'o mut [u8]) -> Result<&'o str, Refusal> {
+        let count = archive::path(self.handles, self.parents, self.ends, self.names, place, out)?;
+        Ok(core::str::from_utf8(&out[..count]).expect("a path is UTF-8"))
+    }
+
     /// All paths in walk order, end to end, and the end of each. Refusals: those of the walk, then ROOM for either output.
     pub fn paths<'o>(&self, out: &'o mut [u8], out_ends: &'o mut [u32]) -> Result<Paths<'o>, Refusal> {
         let count = archive::paths(self.handles, self.parents, self.ends, self.names, out, out_ends)?;

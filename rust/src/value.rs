@@ -1,10 +1,12 @@
 //! A property's value: its bytes, and what they say.
+use crate::archive;
 use crate::array::{PtpArray, PtpItem};
+use crate::refusal::Refusal;
 use crate::text::PtpString;
 use core::fmt;
 
 /// What a value says. A value of 128 bits is the pair (high, low), for the signed type too.
-#[derive(Clone, Copy, Debug, PartialEq, Eq)]
+#[derive(Clone, Copy, Debug, PartialEq, Eq, Hash)]
 pub enum PtpDataType<'a> {
     /// every type code that is none of the others, 0 too; it takes no bytes
     UNDEF,
@@ -31,6 +33,37 @@ pub enum PtpDataType<'a> {
     STR(PtpString<'a>),
 }
 
+impl PtpDataType<'_> {
+    /// The type code; 0 for UNDEF.
+    pub fn code(&self) -> u16 {
+        use PtpDataType::*;
+        match self {
+            UNDEF => 0,
+            INT8(_) => 0x0001,
+            UINT8(_) => 0x0002,
+            INT16(_) => 0x0003,
+            UINT16(_) => 0x0004,
+            INT32(_) => 0x0005,
+            UINT32(_) => 0x0006,
+            INT64(_) => 0x0007,
+            UINT64(_) => 0x0008,
+            INT128(_) => 0x0009,
+            UINT128(_) => 0x000A,
+            AINT8(_) => 0x4001,
+            AUINT8(_) => 0x4002,
+            AINT16(_) => 0x4003,
+            AUINT16(_) => 0x4004,
+            AINT32(_) => 0x4005,
+            AUINT32(_) => 0x4006,
+            AINT64(_) => 0x4007,
+            AUINT64(_) => 0x4008,
+            AINT128(_) => 0x4009,
+            AUINT128(_) => 0x400A,
+            STR(_) => 0xFFFF,
+        }
+    }
+}
+
 /// A value as it lies in the caller's bytes, with its type code. Two are equal where they say the same, however they are spelled.
 #[derive(Clone, Copy)]
 pub struct PtpValue<'a> {
@@ -42,6 +75,19 @@ impl<'a> PtpValue<'a> {
     // The bytes are exactly one value of the type, as the archive found it.
     pub(crate) fn new(code: u16, bytes: &'a [u8]) -> Self {
         PtpValue { code, bytes }
+    }
+
+    /// The value of a type at a place of the bytes, and the place after it. Refusals: END, TEXT.
+    pub fn read(code: u16, s: &'a [u8], at: usize) -> Result<(Self, usize), Refusal> {
+        let [next, ..] = archive::value(s, at, code)?;
+        let next = next as usize;
+        // UNDEF has no bytes, also at a place past the end
+        Ok((PtpValue::new(code, s.get(at..next).unwrap_or(&[])), next))
+    }
+
+    // The integer of the type that ends at a place.
+    pub(crate) fn ending(code: u16, s: &'a [u8], end: usize) -> Self {
+        PtpValue::new(code, &s[end - width(code)..end])
     }
 
     /// The type code.
@@ -95,16 +141,6 @@ fn text(bytes: &[u8]) -> PtpString<'_> {
     PtpString::new(if bytes.len() == 1 { &[] } else { &bytes[1..bytes.len() - 2] })
 }
 
-// How many bytes the value takes that begins these bytes, which begin with a whole one.
-pub(crate) fn length(code: u16, bytes: &[u8]) -> usize {
-    match code {
-        0x0001..=0x000A => width(code),
-        0x4001..=0x400A => 4 + u32::read(bytes) as usize * width(code - 0x4000),
-        0xFFFF => 1 + 2 * bytes[0] as usize,
-        _ => 0,
-    }
-}
-
 // The integers stand in pairs, signed and unsigned, each pair twice as wide as the last.
 fn width(code: u16) -> usize {
     1 << ((code - 1) / 2)
@@ -120,6 +156,48 @@ impl Eq for PtpValue<'_> {}
 
 impl fmt::Debug for PtpValue<'_> {
     fn fmt(&self, f: &mut fmt::Formatter<'_>) -> fmt::Result {
+        fmt::Debug::fmt(&self.view(), f)
+    }
+}
+
+impl core::hash::Hash for PtpValue<'_> {
+    fn hash<H: core::hash::Hasher>(&self, state: &mut H) {
+        self.code.hash(state);
+        self.view().hash(state);
+    }
+}
+
+impl fmt::Display for PtpValue<'_> {
+    fn fmt(&self, f: &mut fmt::Formatter<'_>) -> fmt::Result {
         self.view().fmt(f)
+    }
+}
+
+/// Integers in decimal, those of 128 bits as a pair of halves; arrays as lists; a string as its text.
+impl fmt::Display for PtpDataType<'_> {
+    fn fmt(&self, f: &mut fmt::Formatter<'_>) -> fmt::Result {
+        use PtpDataType::*;
+        match self {
+            UNDEF => f.pad("undef"),
+            INT8(n) => n.fmt(f),
+            UINT8(n) => n.fmt(f),
+            INT16(n) => n.fmt(f),
+            UINT16(n) => n.fmt(f),
+            INT32(n) => n.fmt(f),
+            UINT32(n) => n.fmt(f),
+            INT64(n) => n.fmt(f),
+            UINT64(n) => n.fmt(f),
+            INT128((high, low)) | UINT128((high, low)) => write!(f, "{high}:{low}"),
+            AINT8(a) => write!(f, "{a:?}"),
+            AUINT8(a) => write!(f, "{a:?}"),
+            AINT16(a) => write!(f, "{a:?}"),
+            AUINT16(a) => write!(f, "{a:?}"),
+            AINT32(a) => write!(f, "{a:?}"),
+            AUINT32(a) => write!(f, "{a:?}"),
+            AINT64(a) => write!(f, "{a:?}"),
+            AUINT64(a) => write!(f, "{a:?}"),
+            AINT128(a) | AUINT128(a) => write!(f, "{a:?}"),
+            STR(text) => text.fmt(f),
+        }
     }
 }

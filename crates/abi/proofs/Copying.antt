@@ -1,6 +1,6 @@
 -- What the copy's word stands for, case by case: too little room for the two numbers, a copy that was written, a refusal.
 -- Assumes nothing.
-use mathlib.Core.Path.{_≡_, refl, sym, ap, _∙_}
+use mathlib.Core.Path.{_≡_, refl, sym, _∙_}
 use mathlib.Core.Bool.{Bool, true, false}
 use mathlib.Core.List.{List, _∷_, _++_}
 use Prim.Native.Nat.{ℕ, _≤_, _<_}
@@ -16,7 +16,7 @@ use Rattle.recording.specs.Row.{rowOf}
 use Rattle.recording.specs.Copied.{keptOf, kept, copySaid, none, leftBy, leftOut, copyOf, Copies}
 use Rattle.recording.specs.declared.copy.Left.{Left}
 use Rattle.abi.specs.Answered.{word, Tells}
-use Rattle.abi.specs.Copied.{unroomed, copiedInto, unlessRefused, CopiesInto}
+use Rattle.abi.specs.Copied.{unroomed, copiedInto, CopiesInto}
 
 abbrev pub orRoom : {A B : Type 0} → Answer A → Answer B
 orRoom (got a n) = refused (bare ROOM)

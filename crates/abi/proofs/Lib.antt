@@ -1,7 +1,10 @@
 pub mod laws
 pub mod Minus
 pub mod Copying
+pub mod Integers
+pub mod Listing
+pub mod Parted
 pub mod Unique
 pub mod Given
-pub mod Kept
 pub mod Counted
+pub mod Kept

@@ -2,9 +2,9 @@
 -- A word is that of an answer, and the answer that is allowed is one: by the rule of writers, of the walk, of all paths, of commands.
 -- Assumes nothing.
 use mathlib.Core.Path.{_≡_, refl, sym, ap, _∙_}
-use mathlib.Core.List.{List, _∷_}
+use mathlib.Core.List.{List, _∷_, _++_}
 use Prim.Native.Nat.{ℕ}
-use lib.ListN.{drop}
+use lib.ListN.{length, drop}
 use Rattle.layout.specs.Answer.{Answer, got, refused, means}
 use Rattle.layout.specs.Written.{Said, leftOf, saysWritten}
 use Rattle.layout.specs.declared.Written.{Written}
@@ -16,7 +16,10 @@ use Rattle.tree.specs.Table.{Table}
 use Rattle.tree.proofs.laws.Unique.{one-walked, one-paths}
 use Rattle.abi.specs.Answered.{word, Tells, Gives}
 use Rattle.abi.specs.Copied.{unlessRefused, CopiesInto}
-use Rattle.abi.specs.Sent.{sessionAt, numberAfter, Sent}
+use Rattle.listing.specs.Window.{Windowed}
+use Rattle.abi.specs.Listed.{ListsInto}
+use Rattle.abi.specs.Rows.{side}
+use Rattle.abi.specs.Sent.{sessionAt, numberAfter, commandEnd, endAfter, Parts}
 
 -- one answer is one word
 same-word : {A : Type 0} {P Q : Answer A → Type 0} {r s : ℕ} (x : Tells P r) (y : Tells Q s) → x .answer ≡ y .answer → r ≡ s
@@ -50,13 +53,19 @@ one-paths-given t out ends o o′ e e′ r s x y =
     let all = one-paths t out ends (spoken (x .answer)) (spoken (y .answer)) o o′ e e′ (rw says-spoken (x .allows)) (rw says-spoken (y .allows)) in
     (same-word x y (spoken-one (x .answer) (y .answer) (all .0)), all .1, all .2)
 
-pub one-sent : (n code : ℕ) (said : ℕ → Said) (old new new′ : List ℕ) (n′ n″ r s : ℕ)
-    → Tells (Sent n code said old n′ new) r → Tells (Sent n code said old n″ new′) s → (r ≡ s) × (n′ ≡ n″) × (new ≡ new′)
-one-sent n code said old new new′ n′ n″ r s x y =
-    let p = x .allows .makes in
-    let q = y .allows .makes in
-    let same : x .answer ≡ y .answer = p .answers ∙ ap (means (λ _. turn (sessionAt n) code)) (p .wrote .answers ∙ sym (q .wrote .answers)) ∙ sym (q .answers) in
-    (same-word x y same, x .allows .number ∙ ap (numberAfter n) same ∙ sym (y .allows .number), p .wrote .leaves ∙ sym (q .wrote .leaves))
+pub one-sent : (n end code count : ℕ) (said : ℕ → Said) (old new new′ : List ℕ) (n′ n″ end′ end″ r s : ℕ)
+    → Tells (Parts n end code count said old n′ end′ new) r → Tells (Parts n end code count said old n″ end″ new′) s → (r ≡ s) × (n′ ≡ n″) × (end′ ≡ end″) × (new ≡ new′)
+one-sent n end code count said old new new′ n′ n″ end′ end″ r s x y =
+    let a = x .allows in
+    let b = y .allows in
+    let p = a .sent .makes in
+    let q = b .sent .makes in
+    let same : x .answer ≡ y .answer = p .answers ∙ ap (means (λ _. turn (sessionAt n) code)) (p .wrote .answers ∙ sym (q .wrote .answers)) ∙ sym (q .answers) in (
+      same-word x y same,
+      a .sent .number ∙ ap (numberAfter n) same ∙ sym (b .sent .number),
+      a .parted ∙ ap (endAfter end (commandEnd count)) same ∙ sym (b .parted),
+      p .wrote .leaves ∙ sym (q .wrote .leaves),
+    )
 
 pub one-copied-into : (s out left o o′ l l′ : List ℕ) (r r′ : ℕ) → Tells (CopiesInto s out left o l) r → Tells (CopiesInto s out left o′ l′) r′ → (r ≡ r′) × (o ≡ o′) × (l ≡ l′)
 one-copied-into s out left o o′ l l′ r r′ x y =
@@ -66,4 +75,14 @@ one-copied-into s out left o o′ l l′ r r′ x y =
       same-word x y same,
       p .leaves ∙ ap (λ a. unlessRefused a (λ _. leftOf (copySaid s) out) out) same ∙ sym (q .leaves),
       p .counts ∙ ap (λ a. unlessRefused a (λ k. k .records ∷ k .bytes ∷ drop 2 left) left) same ∙ sym (q .counts),
+    )
+
+pub one-listed-into : (w : Windowed) (out row o o′ c c′ : List ℕ) (r r′ : ℕ) → Tells (ListsInto w out row o c) r → Tells (ListsInto w out row o′ c′) r′ → (r ≡ r′) × (o ≡ o′) × (c ≡ c′)
+one-listed-into w out row o o′ c c′ r r′ x y =
+    let p = x .allows in
+    let q = y .allows in
+    let same : x .answer ≡ y .answer = p .answers ∙ sym (q .answers) in (
+      same-word x y same,
+      p .leaves ∙ ap (λ a. unlessRefused a (λ _. w .text ++ drop (length (w .text)) out) out) same ∙ sym (q .leaves),
+      p .counts ∙ ap (λ a. unlessRefused a (λ _. w .used ∷ w .place ∷ w .records ∷ side (w .stopped) ∷ drop 4 row) row) same ∙ sym (q .counts),
     )

@@ -3,13 +3,21 @@
 use mathlib.Core.Path.{_≡_}
 use mathlib.Core.List.{List, _∷_}
 use Prim.Native.Nat.{ℕ, _+_, _-_, _*_, _%_, _^_}
-use Rattle.layout.specs.Answer.{Answer, got, refused}
+use lib.Dec.{leb}
+use Rattle.layout.specs.Answer.{Told, Answer, got, refused, pick}
 use Rattle.layout.specs.Written.{Said, says, no, Wrote}
+
+-- the farthest place that is told, 2^55 - 1: no bytes that are lent have one there, and with it a refusal is below 0 as a signed word
+abbrev pub farthest : ℕ
+farthest = 36028797018963967
+
+abbrev pub numberAndPlace : Told → ℕ
+numberAndPlace t = 256 * pick (leb (t .at) farthest) (t .at) farthest + t .no
 
 -- minus as a word of 64 bits has it
 unfoldable pub word : {A : Type 0} → Answer A → ℕ
 word (got a n) = n
-word (refused t) = (2 ^ 64 - (256 * t .at + t .no) % 2 ^ 64) % 2 ^ 64
+word (refused t) = (2 ^ 64 - numberAndPlace t) % 2 ^ 64
 
 -- an answer that is allowed, as its word
 pub record Tells {A : Type 0} (allowed : Answer A → Type 0) (r : ℕ) : Type 0 where

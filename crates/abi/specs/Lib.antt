@@ -1,6 +1,8 @@
 pub mod Answered
 pub mod Copied
+pub mod Integers
+pub mod Listed
 pub mod Rows
 pub mod Sent
-pub mod Settings
 pub mod Mended
+pub mod Settings

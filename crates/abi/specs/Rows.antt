@@ -3,12 +3,17 @@
 use mathlib.Core.Bool.{Bool, true, false}
 use mathlib.Core.List.{List, [], _∷_, _++_}
 use mathlib.Core.Option.{Option, some, none}
-use Prim.Native.Nat.{ℕ}
+use Prim.Native.Nat.{ℕ, _+_, _*_, _%_, _^_}
 use Rattle.recording.specs.Content.{Content, Record}
 use Rattle.recording.specs.Content as content
 use Rattle.session.specs.Search.{Reply, payload, response}
+use Rattle.layout.specs.Written.{Said, says}
+use Rattle.wire.specs.Codecs.{unsigned}
 use Rattle.wire.specs.Layout.{int, nat, pair}
+use Rattle.wire.specs.List.{Stepped, next, end}
 use Rattle.wire.specs.Places.{Located, number-is, items, units, empty}
+use Rattle.wire.specs.declared.Part.{Part}
+use Rattle.wire.specs.declared.container.Container.{Container}
 use Rattle.wire.specs.declared.later.Chosen.{Chosen}
 use Rattle.wire.specs.Description.{Form, PropInfo}
 use Rattle.wire.specs.Description as form
@@ -57,6 +62,30 @@ propRow x =
     ∷ x .current .start ∷ x .current .len
     ∷ formRow (x .form)
 
+-- ── values, strings and arrays at a place ──
+
+-- where units or items begin, and how many they are
+abbrev pub partRow : Part → List ℕ
+partRow p = p .start ∷ p .count ∷ []
+
+abbrev pub numberRow : ℕ → List ℕ
+numberRow n = n ∷ []
+
+-- what it is, and two numbers: 1 a signed integer, 2 an unsigned one, by its word; 3 one of 128 bits, the low half first; 4 an array, 5 a string,
+-- by its part; 0 UNDEF
+abbrev pub valueRow : Located → List ℕ
+valueRow (number-is (int z)) = 1 ∷ unsigned (2 ^ 64) z ∷ 0 ∷ []
+valueRow (number-is (nat n)) = 2 ∷ n ∷ 0 ∷ []
+valueRow (number-is (pair h l)) = 3 ∷ l ∷ h ∷ []
+valueRow (items p) = 4 ∷ p .start ∷ p .count ∷ []
+valueRow (units p) = 5 ∷ p .start ∷ p .count ∷ []
+valueRow empty = 0 ∷ 0 ∷ 0 ∷ []
+
+-- a step of a list: the place after the value, how many are left, and the value; no number where it has ended
+abbrev pub stepSaid : Stepped → Said
+stepSaid (next v at left) = says (at ∷ left ∷ valueRow v)
+stepSaid end = says []
+
 -- ── the panel ──
 
 abbrev pub slotRow : Located × Slot → List ℕ
@@ -77,10 +106,21 @@ abbrev pub replyRow : Reply → List ℕ
 replyRow (payload p) = 0x2001 ∷ p .start ∷ p .count ∷ []
 replyRow (response code) = code ∷ 0 ∷ 0 ∷ []
 
--- the container's kind, code, number and payload
+-- a container's kind, code, number and payload
+abbrev pub containerRow : Container → List ℕ
+containerRow x = x .kind ∷ x .code ∷ x .number ∷ x .payload .start ∷ x .payload .count ∷ []
+
+-- the container's, or 0 for a note
 abbrev pub contentRow : Content → List ℕ
 contentRow content.note = 0 ∷ 0 ∷ 0 ∷ 0 ∷ 0 ∷ []
-contentRow (content.holds x) = x .kind ∷ x .code ∷ x .number ∷ x .payload .start ∷ x .payload .count ∷ []
+contentRow (content.holds x) = containerRow x
 
 abbrev pub recordRow : Record → List ℕ
 recordRow x = x .kind ∷ x .body .start ∷ x .body .count ∷ contentRow (x .content)
+
+-- ── names ──
+
+-- start and length in the name bytes, 16 bits each; a code without a name is 0
+abbrev pub placeWord : Option (ℕ × ℕ) → ℕ
+placeWord none = 0
+placeWord (some p) = p .0 % 65536 * 65536 + p .1 % 65536

@@ -3,7 +3,8 @@
 use mathlib.Core.Bool.{Bool}
 use mathlib.Core.List.{List}
 use mathlib.Core.Path.{_≡_}
-use Prim.Native.Nat.{ℕ}
+use Prim.Native.Nat.{ℕ, _+_, _*_}
+use lib.Dec.{leb}
 use Rattle.layout.specs.Answer.{Answer, got, refused, pick}
 use Rattle.layout.specs.Written.{Said}
 use Rattle.wire.specs.Container.{commandSaid}
@@ -26,3 +27,19 @@ numberAfter n (refused t) = n
 pub record Sent (n code : ℕ) (said : ℕ → Said) (old : List ℕ) (n′ : ℕ) (new : List ℕ) (answer : Answer Turn) : Type 0 where
   pub makes : Makes (sessionAt n) code said old answer new
   pub number : n′ ≡ numberAfter n answer
+
+-- ── two transfers ──
+
+-- a Command has twelve bytes, and four for each of its parameters, of which there are five at most
+abbrev pub commandEnd : ℕ → ℕ
+commandEnd count = 12 + 4 * pick (leb count 5) count 5
+
+-- where the Command ends and its Data begins; as it was where nothing was sent
+abbrev pub endAfter : ℕ → ℕ → Answer Turn → ℕ
+endAfter old end (got t count) = end
+endAfter old end (refused t) = old
+
+-- sent, and told where it is parted
+pub record Parts (n end code count : ℕ) (said : ℕ → Said) (old : List ℕ) (n′ end′ : ℕ) (new : List ℕ) (answer : Answer Turn) : Type 0 where
+  pub sent : Sent n code said old n′ new answer
+  pub parted : end′ ≡ endAfter end (commandEnd count) answer

@@ -1,19 +1,18 @@
 // What every exported function answers, and how it gives its numbers.
 ghost use mathlib.Core.Path.{_≡_};
-ghost use Prim.Native.Nat.{_+_, _*_, _%_, _^_};
 ghost use Rattle.layout.specs.Written.{Wrote, says, saysWritten};
-ghost use Rattle.abi.specs.Answered.{word};
+ghost use Rattle.abi.specs.Answered.{numberAndPlace, word};
 use layout::Refusal;
 use layout::Written;
 
-// 2^56: a place's product with 256 goes by what is left of it, for the rest passes a word of 64 bits.
-const PLACES: u64 = 72057594037927936;
+// 2^55 - 1: no bytes that are lent have a place there, but a caller may ask for one. With it a refusal stays below 0.
+const FARTHEST: usize = 36028797018963967;
 
-// A refusal's number and 256 times its place, as far as a machine word has them.
+// A refusal's number and 256 times its place, or the farthest one that is told.
 fn number_and_place(f: Refusal) -> u64
-    ensures { λ r. ⌜ r ≡ (256 * f .at + f .no) % 2 ^ 64 ⌝ }
+    ensures { λ r. ⌜ r ≡ numberAndPlace f ⌝ }
 {
-    256 * (f.at as u64 % PLACES) + f.no as u64
+    256 * (layout::least(f.at, FARTHEST) as u64) + f.no as u64
 }
 
 // How many were given; or minus (the refusal's number and 256 times its place), as a machine word has it.

@@ -120,7 +120,7 @@ pub extern "C" fn ptp_object_info(s: &[u8], out: &mut [u64]) -> u64
     answer::told(give_object(s, out))
 }
 
-fn storage_row(x: StorageInfo, len: usize) -> [u64; 11]
+pub(crate) fn storage_row(x: StorageInfo, len: usize) -> [u64; 11]
     ensures { λ r. ⌜ r ≡ len ∷ fieldsRow (storageFields x) ⌝ }
 {
     [

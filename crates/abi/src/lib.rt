@@ -4,11 +4,14 @@ mod answer;
 mod copied;
 mod dataset;
 mod mended;
+mod name;
 mod object_table;
+mod payload;
 mod property;
 mod record;
 mod setting;
+mod text;
 mod transaction;
-
-pub use answer::give;
-pub use answer::told;
+mod value;
+mod window;
+mod write;

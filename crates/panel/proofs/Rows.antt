@@ -6,20 +6,20 @@ use mathlib.Core.Bool.{Bool, true, false}
 use mathlib.Core.List.{List, [], _∷_}
 use Prim.Native.Nat.{ℕ, zero, suc, _+_, _-_, _*_, _^_, _≤_, _<_}
 use native.Mathlib.Omega.{arith}
-use borrow.Author.Tests.{eqb-true, eqb-false, eq-eqb, ne-eqb, leb-true, lt-leb}
+use borrow.Author.Tests.{eqb-true, eqb-false, ne-eqb, leb-true, lt-leb}
 use lib.Dec.{leb, eqb, lit≤}
 use lib.ListN.{length, take, drop}
 use lib.Seq.{drop-drop}
-use Rattle.layout.specs.Answer.{Answer, got, pick, after, means, fieldAt}
+use Rattle.layout.specs.Answer.{got, pick, after, means, fieldAt}
 use Rattle.layout.specs.Bytes.{bytes, number, cells}
 use Rattle.layout.specs.Grammar.{loose, num, as′}
 use Rattle.layout.proofs.laws.Make.{span-there}
-use Rattle.layout.proofs.laws.Numbers.{length-bytes, number-bytes}
+use Rattle.layout.proofs.laws.Numbers.{number-bytes}
 use Rattle.layout.proofs.laws.Tidied.{zero-one}
 use Rattle.wire.specs.Codecs.{value}
 use Rattle.wire.specs.Layout.{signed, Kind, sint, uint, wide, width, meaning, one, shape, Shaped, Val, Value}
-use Rattle.wire.specs.List.{next, end, stepAt, saysStep}
-use Rattle.wire.specs.Places.{Located, number-is, shapeAt, valueAt}
+use Rattle.wire.specs.List.{stepAt, saysStep}
+use Rattle.wire.specs.Places.{number-is, shapeAt}
 use Rattle.wire.specs.Says.{located}
 use Rattle.wire.specs.declared.list.Step.the-variants as step
 use Rattle.wire.specs.declared.value.Value as declared

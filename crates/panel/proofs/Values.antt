@@ -16,7 +16,7 @@ use Rattle.layout.specs.Answer.{Answer, got, refused, pick, after, means, locat
 use Rattle.layout.specs.Bytes.{Bytes, bytes, number, cells}
 use Rattle.layout.specs.Format.{Format, Sound, word}
 use Rattle.layout.specs.Grammar as grammar
-use Rattle.layout.specs.Grammar.{loose, Grammar, empty, Number, _then_, both, lead, such, as′, Repeat, Counted}
+use Rattle.layout.specs.Grammar.{loose, Grammar, empty, Number, both, lead, such, as′, Repeat, Counted}
 use Rattle.layout.specs.Refusals.{TRAIL}
 use Rattle.layout.proofs.laws.Make.{nothing-format, number-format, then-format, lead-format, such-format, as-format, field-format, repeat-length, spare-format, cells-format, count-format, span-there}
 use Rattle.layout.proofs.laws.Reading.{span-within, cells-take}

@@ -18,6 +18,7 @@ mod scan;
 
 use layout::Refusal;
 use layout::Written;
+pub use range::word_of;
 use session::Made;
 use session::Session;
 use wire::Cursor;

@@ -15,7 +15,8 @@ pub struct Whole {
     pub word: u64,
 }
 
-fn word_of(z: i64) -> u64
+// An integer's word of 64 bits, two's complement.
+pub fn word_of(z: i64) -> u64
     ensures { λ r. ⌜ r ≡ unsigned (2 ^ 64) z ⌝ }
 {
     if z < 0 {

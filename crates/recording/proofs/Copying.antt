@@ -3,7 +3,7 @@
 -- Assumes nothing.
 use mathlib.Core.Path.{_≡_, refl, sym, ap, subst, _∙_}
 use mathlib.Core.Bool.{Bool, true, false}
-use mathlib.Core.List.{List, [], _∷_, _++_, map, append-assoc}
+use mathlib.Core.List.{List, [], _∷_, _++_, map, append-assoc, append-nil}
 use Prim.Native.Nat.{ℕ, zero, suc, _+_, _-_, _≤_}
 use native.Mathlib.Omega.{arith}
 use borrow.Author.Tests.{ltb-false}
@@ -11,34 +11,27 @@ use lib.Dec.{leb, ltb}
 use lib.ListN.{length, take, drop, length-append, length-drop, take-append-drop, drop-of-length-le}
 use lib.Seq.{length-take-le, take-add, take-take, drop-drop, take-append-le, drop-append-le, drop-append-add}
 use Rattle.layout.specs.Answer.{Told, Answer, got, refused, bare, pick, after, means}
-use Rattle.layout.specs.Bytes.{number}
 use Rattle.layout.specs.Refusals.{ROOM}
 use Rattle.layout.specs.Written.{says, no, saidOf, answerOf, leftOf, spelling, Wrote}
 use Rattle.layout.proofs.laws.Accepted.{Accepts, accepted, accepts-after, accepts-means, accepts-pick}
 use Rattle.layout.proofs.laws.Determined.{Tells, retracts}
 use Rattle.layout.proofs.laws.Reading.{drop-take}
 use Rattle.layout.proofs.laws.Tidied.{zero-one}
-use Rattle.wire.specs.Refused.{announced}
 use Rattle.wire.specs.Returned.{partOf}
-use Rattle.wire.specs.Tests.{holds, fails, otherwise}
 use Rattle.recording.specs.Content.{Content, Record}
 use Rattle.recording.specs.Content as content
-use Rattle.recording.specs.Record.{isWritten, headAt, recordAt, recordOf, recordSaid, saysRecord}
-use Rattle.recording.specs.Refused.{Cut, in-front, in-body}
+use Rattle.recording.specs.Record.{isWritten, recordAt, recordOf, recordSaid, saysRecord}
 use Rattle.recording.specs.Returned.{Held, ReturnsRecord}
-use Rattle.recording.specs.Row.{rowFrom, rowOf, wholeOf, isCut}
+use Rattle.recording.specs.Row.{rowFrom, rowOf, wholeOf}
 use Rattle.recording.specs.Copied.{bytesIn, keptOf, kept, writtenIn, AllWritten, copySaid, none, counted, leftBy, leftOut, copyOf, Copies, CopiesFront, saysCopied, moveTold, move, Alike, no-more, and-one, plus}
-use Rattle.recording.specs.declared.Head.{Head}
 use Rattle.recording.specs.declared.ReadRecord.{ReadRecord}
 use Rattle.recording.specs.declared.copy.Left.{Left}
 use Rattle.recording.specs.declared.copy.Front.{Front}
 use Rattle.recording.specs.declared.copy.Copied as declared
 use Rattle.recording.specs.declared.copy.Copied.the-variants as copied
-use Rattle.recording.proofs.Judged.{HeadSays, head-judged}
-use Rattle.recording.proofs.Lasting.{cut-says, cut-one}
-use Rattle.recording.proofs.laws.Rowed.{uncut-same}
+use Rattle.recording.proofs.laws.Fronted.{record-before}
 use Rattle.recording.proofs.Moved.{shifted, record-moved, rows-join}
-use Rattle.recording.proofs.Placed.{Placed, record-placed, record-head, row-got, row-none, copied-adds}
+use Rattle.recording.proofs.Placed.{Placed, record-placed, row-got, row-none, copied-adds}
 use Rattle.recording.proofs.ReadBack.{record-returns}
 
 -- ── one answer ──
@@ -155,32 +148,9 @@ written-read kind body old new n promised r e = let b = record-returns kind body
 
 -- ── a record alone ──
 
-module _ (v : List ℕ) where
-  -- a head ends where it announces
-  head-ends : Accepts (λ h n. n ≡ announced v) (headAt v 0)
-  head-ends = go (head-judged v)
-    where
-      go : {x : Answer Head} → HeadSays v x → Accepts (λ h n. n ≡ announced v) x
-      go (holds h) = tt
-      go (fails a (holds h)) = tt
-      go (fails a (fails b (holds h))) = tt
-      go (fails a (fails b (fails c (holds h)))) = tt
-      go (fails a (fails b (fails c (fails d (holds h))))) = tt
-      go (fails a (fails b (fails c (fails d (fails e otherwise))))) = refl
-
-  -- of a record's own bytes its reading is the same
-  front-same : {x : Record} {n : ℕ} → got x n ≡ recordOf v → recordOf (take n v) ≡ got x n
-  front-same {x} {n} e =
-      let p = accepted (Placed v 0) (record-placed v 0) e in
-      let long : length (take n v) ≡ n = length-take-le n v (p .within) in
-      let all : n ≡ announced v = accepted _ head-ends (accepted _ (record-head v 0) e) in
-      let head : announced (take n v) ≡ announced v = ap number (take-take 4 n v (omega (arith, p .till))) in
-      let uncut : isCut (take n v) ≡ false = cut-one (take n v) (isCut (take n v)) false (cut-says (take n v) (isCut (take n v)) refl) (fails (not-cut n (omega (arith, p .till)) long (head ∙ sym all)) otherwise) in
-      sym (uncut-same (take n v) (drop n v) uncut) ∙ ap (λ u. recordOf u) (take-append-drop n v) ∙ sym e
-    where
-      not-cut : (n : ℕ) → 6 ≤ n → length (take n v) ≡ n → announced (take n v) ≡ n → Cut (take n v) → ⊥
-      not-cut n six long all (in-front h) = omega arith
-      not-cut n six long all (in-body _ _ _ _ _ h) = omega arith
+-- of a record's own bytes its reading is the same
+front-same : (v : List ℕ) {x : Record} {n : ℕ} → got x n ≡ recordOf v → recordOf (take n v) ≡ got x n
+front-same v {x} {n} e = ap (λ u. recordOf u) (sym (append-nil (take n v))) ∙ record-before v e []
 
 -- its bytes in the recording are read as the record, with its places from its start
 record Alone (s : List ℕ) (at : ℕ) (x : Record) : Type 0 where

@@ -17,7 +17,7 @@ use Rattle.layout.proofs.laws.Make.{span-there, span-short}
 use Rattle.layout.proofs.laws.Numbers.{length-bytes}
 use Rattle.layout.proofs.laws.Tidied.{zero-one}
 use Rattle.layout.proofs.laws.Stored.{first, more}
-use Rattle.layout.specs.Refusals.{END, RECORD, LONG}
+use Rattle.layout.specs.Refusals.{RECORD, LONG}
 use Rattle.wire.specs.Places.{numAt}
 use Rattle.recording.specs.Content.{Content}
 use Rattle.recording.specs.Record.{limit, isKind, isWritten, begins, contentAt, bodyAt, recordWord, recordSaid}

@@ -11,7 +11,7 @@ use lib.Dec.{eqb, leb}
 use lib.ListN.{length, take, drop}
 use lib.Seq.{take-take}
 use Rattle.layout.specs.Answer.{got, pick, after, spanAt}
-use Rattle.layout.specs.Bytes.{Bytes, bytes, number, cells}
+use Rattle.layout.specs.Bytes.{Bytes, bytes, cells}
 use Rattle.layout.specs.Format.{Stands}
 use Rattle.layout.specs.Grammar.{loose, empty}
 use Rattle.layout.proofs.laws.Make.{span-there}

@@ -20,7 +20,6 @@ use Rattle.layout.specs.Grammar.{loose, tidy, both, as′}
 use Rattle.layout.specs.Refusals.{TRAIL, RECORD}
 use Rattle.layout.proofs.laws.Make.{Spanned, there, short, spanned, span-there}
 use Rattle.layout.proofs.laws.Numbers.{Bytes-take}
-use Rattle.layout.proofs.laws.Told.{read, other}
 use Rattle.layout.proofs.laws.Words.{join, split, fits}
 use Rattle.layout.proofs.laws.Tidied.{zero-one}
 use Rattle.wire.specs.Places.{numAt, itemsIn}

@@ -9,7 +9,7 @@ use borrow.Author.Tests.{eq-eqb, leb-true, le-leb, lt-ltb, le-ltb}
 use lib.Dec.{T, leb}
 use lib.ListN.{length, take, drop, getD, length-append, drop-of-length-le}
 use lib.Seq.{take-at, drop-at}
-use Rattle.layout.specs.Answer.{Told, refused, pick, bare}
+use Rattle.layout.specs.Answer.{Told, pick, bare}
 use Rattle.layout.specs.Bytes.{Bytes, bytes}
 use Rattle.layout.specs.Grammar as grammar
 use Rattle.layout.specs.Grammar.{tidy, Number, empty, both, lead, such, as′, Repeat}

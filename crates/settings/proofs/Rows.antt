@@ -11,7 +11,7 @@ use lib.Dec.{eqb}
 use lib.ListN.{length, take, drop, getD, length-append, length-take, length-drop}
 use lib.Seq.{ext-getD, getD-take, getD-drop, length-take-le}
 use Rattle.layout.specs.Answer.{Told, got, refused, pick, after, bare}
-use Rattle.layout.specs.Bytes.{Bytes, bytes}
+use Rattle.layout.specs.Bytes.{Bytes}
 use Rattle.layout.specs.Grammar.{tidy}
 use Rattle.layout.specs.Refusals.{RECORD}
 use Rattle.layout.proofs.laws.Tidied.{zero-one}

@@ -8,7 +8,7 @@ use mathlib.Core.Option.{Option, some, none}
 use Prim.Native.Nat.{ℕ, _+_, _-_}
 use native.Mathlib.Omega.{arith}
 use lib.ListN.{length}
-use Rattle.layout.specs.Answer.{Answer, got, refused, pick, after, means, bare}
+use Rattle.layout.specs.Answer.{Answer, got, refused, pick, means, bare}
 use Rattle.layout.specs.Bytes.{Bytes}
 use Rattle.layout.specs.Written.{says, no}
 use Rattle.layout.proofs.laws.Tidied.{zero-one}

@@ -17,7 +17,7 @@ use Rattle.layout.specs.Bytes.{Bytes, bytes, number, cells}
 use Rattle.layout.specs.Codec.{Codec}
 use Rattle.layout.specs.Format.{Format, Sound, word, Stands}
 use Rattle.layout.specs.Grammar as grammar
-use Rattle.layout.specs.Grammar.{loose, tidy, Grammar, empty, Number, _then_, both, lead, such, as′, Repeat, Counted}
+use Rattle.layout.specs.Grammar.{loose, Grammar, empty, Number, both, lead, such, as′, Repeat, Counted}
 use Rattle.layout.proofs.laws.Make.{nothing-format, number-format, then-format, lead-format, such-format, as-format, field-format, repeat-length, spare-format, cells-format, count-format, Spanned, there, short, span-there, span-short, spanned}
 use Rattle.layout.proofs.laws.Reading.{cells-take, means-means}
 use Rattle.layout.proofs.laws.Single.{Single, single-empty, single-number, single-as, single-counted}

@@ -1,7 +1,7 @@
 //! Datasets, and what the panel asks of a property.
 use super::{show, words};
 use ptp_proved::{
-    newer_value, tidy_property, Newer, PropLayout, PtpDeviceInfo, PtpFormData, PtpObjectInfo, PtpPropInfo, PtpStorageInfo,
+    newer_value, storage_info, tidy_property, Newer, PropLayout, PtpDeviceInfo, PtpFormData, PtpObjectInfo, PtpPropInfo, PtpStorageInfo,
 };
 
 pub fn device(s: &str) -> Option<String> {
@@ -59,12 +59,23 @@ pub fn object(s: &str) -> Option<String> {
 
 pub fn storage(s: &str) -> Option<String> {
     let s = words::bytes(s)?;
-    let (x, taken) = match PtpStorageInfo::decode(&s) {
-        Ok(read) => read,
-        Err(why) => return Some(show::refusal(why)),
-    };
-    Some(format!(
-        "ok {taken} {} {} {} {} {} {} {} {}",
+    Some(match PtpStorageInfo::decode(&s) {
+        Ok((info, taken)) => format!("ok {taken} {}", fields(info)),
+        Err(why) => show::refusal(why),
+    })
+}
+
+pub fn storage_payload(s: &str) -> Option<String> {
+    let s = words::bytes(s)?;
+    Some(match storage_info(&s) {
+        Ok(info) => format!("ok {}", fields(info)),
+        Err(why) => show::refusal(why),
+    })
+}
+
+fn fields(x: PtpStorageInfo) -> String {
+    format!(
+        "{} {} {} {} {} {} {} {}",
         x.StorageType,
         x.FilesystemType,
         x.AccessCapability,
@@ -73,7 +84,7 @@ pub fn storage(s: &str) -> Option<String> {
         x.FreeSpaceInImages,
         show::text(x.StorageDescription),
         show::text(x.VolumeLabel),
-    ))
+    )
 }
 
 pub fn layout_of(word: &str) -> Option<PropLayout> {

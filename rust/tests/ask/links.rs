@@ -13,8 +13,10 @@ fn made(state: u32, session: Session, made: Result<(u32, usize), Refusal>, out: 
     }
 }
 
-// The bytes that a command says it made are the front of what it was lent.
+// The bytes that a command says it made are the front of what it was lent; the Command is as long as it says itself, and its Data the rest.
 fn told(made: Made) -> (u32, usize) {
+    let length = u32::from_le_bytes([made.bytes[0], made.bytes[1], made.bytes[2], made.bytes[3]]);
+    assert_eq!((made.command().len(), made.data().len()), (length as usize, made.bytes.len() - length as usize));
     (made.number, made.bytes.len())
 }
 
@@ -136,22 +138,11 @@ pub fn paths(table: [&str; 4], room: &str) -> Option<String> {
     })
 }
 
-// A place's path is that of all paths which stands where the walk has the place. The interface has no path by itself,
-// so its two last refusals are this test's own.
 pub fn path(table: [&str; 4], place: &str, room: &str) -> Option<String> {
     let table = Table::read(table)?;
     let place = words::size(place)?;
     let mut out = words::room(room)?;
-    let mut all = vec![0; 1 << 24];
-    let mut ends = vec![0; table.handles.len()];
-    let mut places = vec![0; table.handles.len()];
-    let answer = table.lent().paths(&mut all, &mut ends).and_then(|paths| {
-        let order = table.lent().walk(&mut places)?;
-        let n = order.iter().position(|&other| usize::from(other) == place).ok_or(Refusal::PLACE)?;
-        let path = paths.get(n).expect("a path for each place of the walk").as_bytes();
-        out.get_mut(..path.len()).ok_or(Refusal::ROOM)?.copy_from_slice(path);
-        Ok(path.len())
-    });
+    let answer = table.lent().path(place, &mut out).map(str::len);
     Some(match answer {
         Ok(count) => format!("ok {count} {}", show::bytes(&out)),
         Err(why) => format!("{} {}", show::refusal(why), show::bytes(&out)),
@@ -194,30 +185,4 @@ pub fn mend(s: &str, room: &str, report: &str) -> Option<String> {
         Ok((count, stretches)) => format!("ok {count} {} {stretches} {lists}", show::bytes(&out)),
         Err(why) => format!("{} {} {lists}", show::refusal(why), show::bytes(&out)),
     })
-}
-
-// A container is asked for as the body of a record. Its record refuses bytes after it, of which the question says nothing: then the body
-// is cut to the container's own length.
-pub fn container(s: &str) -> Option<String> {
-    let s = words::bytes(s)?;
-    let answer = in_record(&s);
-    if answer == show::refusal(Refusal::TRAIL) {
-        let own = u32::from_le_bytes([s[0], s[1], s[2], s[3]]);
-        return Some(in_record(&s[..own as usize]));
-    }
-    Some(answer)
-}
-
-fn in_record(body: &[u8]) -> String {
-    let length = (body.len() as u32 + 6).to_le_bytes();
-    let record = [&length[..], &[1, 0], body].concat();
-    match read_record(&record) {
-        Ok((read, _)) => {
-            let x = read.container.expect("a record of kind 1 has a container");
-            let start = show::start(x.payload, read.body);
-            format!("ok {} {} {} {start} {}", x.kind as u16, x.code, x.tid, x.payload.len())
-        }
-        Err(Refusal::END { at }) => show::refusal(Refusal::END { at: at - 6 }),
-        Err(why) => show::refusal(why),
-    }
 }

@@ -3,10 +3,38 @@ mod datasets;
 mod links;
 mod settings;
 mod show;
+mod values;
 mod words;
 
+use ptp_proved::{
+    object_handles, storage_ids, tidy_device, tidy_object, tidy_storage, write_array, StandardCommandCode, StandardResponseCode,
+};
+
 /// Every kind that is compared.
-pub const KINDS: [&str; 23] = [
+pub const KINDS: [&str; 46] = [
+    "response-name",
+    "command-name",
+    "value",
+    "end",
+    "unit",
+    "item",
+    "utf8",
+    "write-value",
+    "write-string",
+    "write-array",
+    "tidy-value",
+    "tidy-device",
+    "tidy-object",
+    "tidy-storage",
+    "write-container",
+    "handles",
+    "storage-ids",
+    "object-count",
+    "storage-info",
+    "device-info",
+    "object-info",
+    "write-record",
+    "listing",
     "device",
     "object",
     "storage",
@@ -57,7 +85,38 @@ pub fn answer(kind: &str, words: &[&str]) -> Option<String> {
         ("record", [s]) => links::record(s),
         ("copy", [s, room]) => links::copy(s, room),
         ("mend", [s, room, report]) => links::mend(s, room, report),
-        ("container", [s]) => links::container(s),
+        ("container", [s]) => values::container(s),
+        ("response-name", [code]) => values::name(StandardResponseCode::name, code),
+        ("command-name", [code]) => values::name(StandardCommandCode::name, code),
+        ("value", [code, at, s]) => values::value(code, at, s),
+        ("end", [at, s]) => values::end(at, s),
+        ("unit", [n, at, s]) => values::a_unit(n, at, s),
+        ("item", [code, n, at, s]) => values::an_item(code, n, at, s),
+        ("utf8", [at, s, room]) => values::in_utf8(at, s, room),
+        ("write-value", [code, value, room]) => values::write_value(code, value, room),
+        ("write-string", [units, room]) => values::write_string(units, room),
+        ("write-array", [code, s, room]) => values::typed(write_array, code, s, room),
+        ("tidy-value", [code, s, room]) => values::typed(values::tidy_typed, code, s, room),
+        ("tidy-device", [s, room]) => values::tidy(tidy_device, s, room),
+        ("tidy-object", [s, room]) => values::tidy(tidy_object, s, room),
+        ("tidy-storage", [s, room]) => values::tidy(tidy_storage, s, room),
+        ("write-container", [kind, code, number, s, room]) => values::put_container(kind, code, number, s, room),
+        ("handles", [s]) => values::handles(object_handles, s),
+        ("storage-ids", [s]) => values::handles(storage_ids, s),
+        ("object-count", [s]) => values::count(s),
+        ("storage-info", [s]) => datasets::storage_payload(s),
+        ("device-info", [s]) => datasets::device(s).map(without_length),
+        ("object-info", [s]) => datasets::object(s).map(without_length),
+        ("write-record", [kind, s, room]) => values::put_record(kind, s, room),
+        ("listing", [s]) => values::listing(s),
         _ => None,
+    }
+}
+
+// The answer of a camera call has the record's fields and not the length that it took; a refusal has none.
+fn without_length(answer: String) -> String {
+    match answer.strip_prefix("ok ").and_then(|fields| fields.split_once(' ')) {
+        Some((_, fields)) => format!("ok {fields}"),
+        None => answer,
     }
 }

@@ -13,7 +13,9 @@ use Rattle.recording.specs.Content as content
 use Rattle.wire.specs.Description.{Form}
 use Rattle.wire.specs.Description as form
 use Rattle.abi.specs.Answered.{given}
-use Rattle.abi.specs.Rows.{formRow, contentRow}
+use Rattle.wire.specs.Layout.{int, nat, pair}
+use Rattle.wire.specs.Places.{Located, number-is, items, units, empty}
+use Rattle.abi.specs.Rows.{formRow, contentRow, valueRow}
 
 module _ {A : Type 0} (row : A → List ℕ) {x : Answer A} {old : List ℕ} where
   pub row-given : {a : A} {n : ℕ} {ns new : List ℕ} {answer : Answer (Unit {0})} → got a n ≡ x → ns ≡ n ∷ row a → Wrote (says ns) old answer new → Wrote (given row x) old answer new
@@ -41,3 +43,11 @@ form-long (form.list p n) = refl
 pub content-long : (x : Content) → length (contentRow x) ≡ 5
 content-long content.note = refl
 content-long (content.holds x) = refl
+
+pub value-long : (l : Located) → length (valueRow l) ≡ 3
+value-long (number-is (int z)) = refl
+value-long (number-is (nat n)) = refl
+value-long (number-is (pair h l)) = refl
+value-long (items p) = refl
+value-long (units p) = refl
+value-long empty = refl

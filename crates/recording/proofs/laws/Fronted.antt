@@ -22,7 +22,7 @@ use Rattle.recording.specs.declared.Head.{Head}
 use Rattle.recording.proofs.Judged.{HeadSays, head-judged}
 use Rattle.recording.proofs.Lasting.{cut-says, cut-one}
 use Rattle.recording.proofs.Moved.{shifted, row-moved}
-use Rattle.recording.proofs.Placed.{Placed, record-placed, record-head, rest, row-got, row-refused, row-enough}
+use Rattle.recording.proofs.Placed.{Placed, record-placed, record-head, row-got, row-refused, row-enough}
 use Rattle.recording.proofs.laws.Rowed.{Stands, record-stands, uncut-same}
 
 -- ── a record alone ──

@@ -2,7 +2,7 @@
 -- that LONG does not end is the same.
 -- The limit is asked once, in the body's reader, and by cases of that one test the answer is LONG or does not change; the rest is carried along.
 -- Assumes nothing.
-use mathlib.Core.Path.{_≡_, refl, ap, sym, _∙_}
+use mathlib.Core.Path.{_≡_, refl, ap, _∙_}
 use mathlib.Core.Bool.{Bool, true, false}
 use mathlib.Core.Logic.{_↔_, _⊎_, inl, inr}
 use mathlib.Core.List.{List, [], _∷_, _++_}

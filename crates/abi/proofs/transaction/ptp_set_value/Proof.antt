@@ -9,8 +9,8 @@ returns c =
     let m = c .before .before .before .set-value in
     record {
       answer = saysMade (m .result);
-      allows = record { makes = rw (← c .before .before .before .before .before .named .ensures) (m .ensures); number = c .spoken .ensures .0 };
-      told = c .spoken .ensures .1;
+      allows = record { sent = record { makes = rw (← c .before .before .before .before .before .named .ensures) (m .ensures); number = c .spoken .ensures .0 }; parted = c .spoken .ensures .1 };
+      told = c .spoken .ensures .2;
     }
 
 pub ptp-set-value-spec : {M : Type 1} → statement M

@@ -4,7 +4,6 @@ use mathlib.Core.Path.{_≡_, refl, sym, _∙_}
 use mathlib.Core.Bool.{Bool, true}
 use Prim.Native.Nat.{ℕ}
 use denote.Ref.{now}
-use lib.ListN.{length}
 use Rattle.panel.specs.Words.{plainWidth, Plain, laidOut}
 use Rattle.panel.proofs.Rows.{Numbers, numbers, width-small, Laid, laid, in-row}
 use Rattle.panel.proofs.member.is_member.Statement.{statement}

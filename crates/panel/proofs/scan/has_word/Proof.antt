@@ -5,9 +5,9 @@ use Prim.Native.Nat.{_-_, _*_, _≤_}
 use native.Mathlib.Omega.{arith}
 use denote.Ref.{now}
 use lib.Dec.{eqb}
-use lib.ListN.{length, take, drop}
+use lib.ListN.{length, drop}
 use Rattle.layout.specs.Answer.{pick}
-use Rattle.layout.specs.Bytes.{number, cells}
+use Rattle.layout.specs.Bytes.{cells}
 use Rattle.panel.specs.Words.{isIn}
 use Rattle.panel.proofs.Scanning.{times-less, met, none-met, plain-some}
 use borrow.Author.Needs.{needs}

@@ -1,5 +1,4 @@
 -- `panel::scan::plain_width`: one test after the other. Assumes nothing.
-use borrow.Author.Needs.{needs}
 use borrow.Author.Tests.{eq-eqb, ne-eqb, le-leb, lt-leb}
 use Rattle.panel.specs.Words.{plainWidth}
 use Rattle.panel.proofs.scan.plain_width.Statement.{statement}

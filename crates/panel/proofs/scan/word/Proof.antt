@@ -1,11 +1,9 @@
 -- `panel::scan::word`: each width by itself; there is no other. Assumes nothing.
 use borrow.Author.Needs.{needs}
-use mathlib.Core.Path.{_≡_, refl, sym, _∙_}
-use Prim.Native.Nat.{ℕ, _-_, _≤_}
+use mathlib.Core.Path.{sym, _∙_}
+use Prim.Native.Nat.{_-_}
 use native.Mathlib.Omega.{arith}
 use denote.Ref.{now}
-use lib.ListN.{length}
-use Rattle.panel.specs.Words.{Plain, one-byte, two-bytes, four-bytes, eight-bytes}
 use Rattle.panel.proofs.Scanning.{one-word, eight}
 use Rattle.panel.proofs.scan.word.Statement.{statement}
 use Rattle.panel.proofs.scan.word.Tie as tie

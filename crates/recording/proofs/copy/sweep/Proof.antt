@@ -1,6 +1,6 @@
 -- `recording::copy::sweep`: a turn goes past one record and counts it; what is found and counted from there on is the same, and the records
 -- passed so far are a recording of which just that is left out. Assumes nothing.
-use mathlib.Core.Path.{_≡_, refl, sym, ap, _∙_}
+use mathlib.Core.Path.{_≡_, refl, sym, _∙_}
 use Prim.Native.Nat.{ℕ, _-_, _≤_}
 use mathlib.Core.List.{List}
 use native.Mathlib.Omega.{arith}

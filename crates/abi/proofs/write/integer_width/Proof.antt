@@ -1,0 +1,36 @@
+-- `abi::write::integer_width`: one test after the other. Assumes nothing.
+use borrow.Author.Tests.{eq-eqb, ne-eqb, le-leb, lt-leb}
+use Rattle.abi.specs.Integers.{integerWidth}
+use Rattle.abi.proofs.write.integer_width.Statement.{statement}
+use Rattle.abi.proofs.write.integer_width.Tie as tie
+
+returns : tie.Need-returns
+unfolding integerWidth
+returns c = rw (eq-eqb _ _ (c .if1 .taken))
+
+returns-2 : tie.Need-returns-2
+unfolding integerWidth
+returns-2 c = rw (ne-eqb _ _ (c .before .if1 .left), le-leb _ _ (c .if2 .taken))
+
+returns-3 : tie.Need-returns-3
+unfolding integerWidth
+returns-3 c = rw (ne-eqb _ _ (c .before .before .if1 .left), lt-leb _ _ (c .before .if2 .left), le-leb _ _ (c .if3 .taken))
+
+returns-4 : tie.Need-returns-4
+unfolding integerWidth
+returns-4 c = rw (ne-eqb _ _ (c .before .before .before .if1 .left), lt-leb _ _ (c .before .before .if2 .left), lt-leb _ _ (c .before .if3 .left), le-leb _ _ (c .if4 .taken))
+
+returns-5 : tie.Need-returns-5
+unfolding integerWidth
+returns-5 c = rw (ne-eqb _ _ (c .before .before .before .before .if1 .left), lt-leb _ _ (c .before .before .before .if2 .left), lt-leb _ _ (c .before .before .if3 .left), lt-leb _ _ (c .before .if4 .left), le-leb _ _ (c .if5 .taken))
+
+returns-6 : tie.Need-returns-6
+unfolding integerWidth
+returns-6 c = rw (ne-eqb _ _ (c .before .before .before .before .before .if1 .left), lt-leb _ _ (c .before .before .before .before .if2 .left), lt-leb _ _ (c .before .before .before .if3 .left), lt-leb _ _ (c .before .before .if4 .left), lt-leb _ _ (c .before .if5 .left), le-leb _ _ (c .if6 .taken))
+
+returns-7 : tie.Need-returns-7
+unfolding integerWidth
+returns-7 c = rw (ne-eqb _ _ (c .before .before .before .before .before .if1 .left), lt-leb _ _ (c .before .before .before .before .if2 .left), lt-leb _ _ (c .before .before .before .if3 .left), lt-leb _ _ (c .before .before .if4 .left), lt-leb _ _ (c .before .if5 .left), lt-leb _ _ (c .if6 .left))
+
+pub integer-width-spec : {M : Type 1} → statement M
+integer-width-spec = tie.close (tie.spec returns returns-2 returns-3 returns-4 returns-5 returns-6 returns-7)

@@ -1,0 +1,95 @@
+//! What is written: each at the front of the output, and the part that was written comes back.
+use crate::archive;
+use crate::array::PtpArray;
+use crate::refusal::Refusal;
+use crate::text::PtpString;
+use crate::value::PtpDataType;
+
+/// A string from its units, at most 254. Refusals: TEXT, whose place is 0 here; COUNT; ROOM.
+pub fn write_text<'o>(units: &[u16], out: &'o mut [u8]) -> Result<&'o [u8], Refusal> {
+    let count = archive::write_text(units, out)?;
+    Ok(&out[..count])
+}
+
+/// An array from its type code and the bytes of its items. Refusals: PLACE for a code that is no array's; COUNT where the bytes are no whole
+/// items, or too many; ROOM.
+pub fn write_array<'o>(code: u16, items: &[u8], out: &'o mut [u8]) -> Result<&'o [u8], Refusal> {
+    let count = archive::write_array(code, items, out)?;
+    Ok(&out[..count])
+}
+
+/// The tidy spelling of the value of a type that begins these bytes. Refusals: those of reading it, then ROOM.
+pub fn tidy_value<'o>(code: u16, s: &[u8], out: &'o mut [u8]) -> Result<&'o [u8], Refusal> {
+    let count = archive::tidy_value(code, s, out)?;
+    Ok(&out[..count])
+}
+
+/// The tidy spelling of the record that begins these bytes. Refusals: those of reading it, then ROOM.
+pub fn tidy_device<'o>(s: &[u8], out: &'o mut [u8]) -> Result<&'o [u8], Refusal> {
+    let count = archive::tidy_device(s, out)?;
+    Ok(&out[..count])
+}
+
+/// As [`tidy_device`].
+pub fn tidy_object<'o>(s: &[u8], out: &'o mut [u8]) -> Result<&'o [u8], Refusal> {
+    let count = archive::tidy_object(s, out)?;
+    Ok(&out[..count])
+}
+
+/// As [`tidy_device`].
+pub fn tidy_storage<'o>(s: &[u8], out: &'o mut [u8]) -> Result<&'o [u8], Refusal> {
+    let count = archive::tidy_storage(s, out)?;
+    Ok(&out[..count])
+}
+
+impl PtpDataType<'_> {
+    /// Its bytes, at the front of the output: the one tidy spelling of what it says.
+    ///
+    /// ```
+    /// use ptp_proved::PtpDataType;
+    /// let mut out = [0; 8];
+    /// assert_eq!(PtpDataType::INT16(-2).encode(&mut out).unwrap(), [0xFE, 0xFF]);
+    /// ```
+    ///
+    /// Refusal: ROOM.
+    pub fn encode<'o>(&self, out: &'o mut [u8]) -> Result<&'o [u8], Refusal> {
+        use PtpDataType::*;
+        let code = self.code();
+        let count = match *self {
+            UNDEF => 0,
+            INT8(n) => archive::write_integer(code, n as u64, 0, out)?,
+            UINT8(n) => archive::write_integer(code, n.into(), 0, out)?,
+            INT16(n) => archive::write_integer(code, n as u64, 0, out)?,
+            UINT16(n) => archive::write_integer(code, n.into(), 0, out)?,
+            INT32(n) => archive::write_integer(code, n as u64, 0, out)?,
+            UINT32(n) => archive::write_integer(code, n.into(), 0, out)?,
+            INT64(n) => archive::write_integer(code, n as u64, 0, out)?,
+            UINT64(n) => archive::write_integer(code, n, 0, out)?,
+            INT128((high, low)) | UINT128((high, low)) => archive::write_integer(code, low, high, out)?,
+            AINT8(a) => items(code, a, out)?,
+            AUINT8(a) => items(code, a, out)?,
+            AINT16(a) => items(code, a, out)?,
+            AUINT16(a) => items(code, a, out)?,
+            AINT32(a) => items(code, a, out)?,
+            AUINT32(a) => items(code, a, out)?,
+            AINT64(a) => items(code, a, out)?,
+            AUINT64(a) => items(code, a, out)?,
+            AINT128(a) | AUINT128(a) => items(code, a, out)?,
+            STR(text) => string(text, out)?,
+        };
+        Ok(&out[..count])
+    }
+}
+
+fn items<T>(code: u16, array: PtpArray<'_, T>, out: &mut [u8]) -> Result<usize, Refusal> {
+    archive::write_array(code, array.bytes(), out)
+}
+
+// A string that was read has at most 254 units.
+fn string(text: PtpString<'_>, out: &mut [u8]) -> Result<usize, Refusal> {
+    let mut units = [0; 254];
+    for (unit, own) in text.units().iter().zip(&mut units) {
+        *own = unit;
+    }
+    archive::write_text(&units[..text.len()], out)
+}
