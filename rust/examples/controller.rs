@@ -17,7 +17,7 @@ enum Fault {
 impl fmt::Display for Fault {
     fn fmt(&self, f: &mut fmt::Formatter<'_>) -> fmt::Result {
         match self {
-            Fault::Refused(why) => why.fmt(f),
+            Fault::Refused(why) => write!(f, "refusal {}: {why}", why.number()),
             Fault::Response(code) => write!(f, "response {code:04x}"),
             Fault::Unexpected => f.write_str("the camera expected something else"),
         }
@@ -104,7 +104,13 @@ impl Controller<'_, '_> {
         self.ask(&|session, out| session.open_session(out))?;
         let payload = self.ask(&|session, out| session.get_device_info(out))?;
         let (info, _) = PtpDeviceInfo::decode(&payload)?;
-        println!("camera {} {} {}, {} operations", info.Manufacturer, info.Model, info.SerialNumber, info.OperationsSupported.len());
+        println!(
+            "camera {} {} {}, {} operations",
+            info.Manufacturer,
+            info.Model,
+            info.SerialNumber,
+            info.OperationsSupported.len()
+        );
         Ok(())
     }
 
@@ -128,7 +134,10 @@ impl Controller<'_, '_> {
     /// The value that follows the current one, set again while the camera is busy.
     fn set_next(&mut self, description: &[u8]) -> Result<(), Fault> {
         let (info, _) = PtpPropInfo::decode(PropLayout::Crate, description)?;
-        let PtpFormData::Enumeration { array } = info.Form else { return Err(Fault::Unexpected) };
+        let array = match info.Form {
+            PtpFormData::Enumeration { array } => array,
+            _ => return Err(Fault::Unexpected),
+        };
         let next = array.iter().skip_while(|value| *value != info.Current).nth(1).ok_or(Fault::Unexpected)?;
         println!("set to {next}");
         loop {
@@ -173,7 +182,9 @@ impl Controller<'_, '_> {
     /// A command of the maker's own, whose Response is no standard one.
     fn makers_own(&mut self) -> Result<(), Fault> {
         match self.ask(&|session, out| session.command(0x9001, &[], out)) {
-            Err(Fault::Response(code)) => println!("response {code:04x} {}", StandardResponseCode::name(code).unwrap_or("has no name")),
+            Err(Fault::Response(code)) => {
+                println!("response {code:04x} {}", StandardResponseCode::name(code).unwrap_or("has no name"))
+            }
             other => drop(other?),
         }
         Ok(())
@@ -194,9 +205,12 @@ impl Controller<'_, '_> {
 
 fn main() -> ExitCode {
     let words: Vec<_> = std::env::args().skip(1).collect();
-    let [camera, out] = &words[..] else {
-        eprintln!("controller CAMERA OUT");
-        return ExitCode::from(2);
+    let (camera, out) = match &words[..] {
+        [camera, out] => (camera, out),
+        _ => {
+            eprintln!("controller CAMERA OUT");
+            return ExitCode::from(2);
+        }
     };
     let day = std::fs::read(camera).expect("the camera's recording");
     let mut room = vec![0; 65536];

@@ -38,7 +38,10 @@ fn read_hex(hex: &str) -> Option<Vec<u8>> {
 
 // The value of the list that follows the one whose bytes are the current value's.
 fn next_value<'a>(info: &PtpPropInfo<'a>) -> Option<PtpValue<'a>> {
-    let PtpFormData::Enumeration { array } = info.Form else { return None };
+    let array = match info.Form {
+        PtpFormData::Enumeration { array } => array,
+        _ => return None,
+    };
     array.iter().skip_while(|value| value.bytes() != info.Current.bytes()).nth(1)
 }
 
@@ -47,7 +50,8 @@ fn set_next(layout: PropLayout, s: &[u8]) -> Result<(), String> {
     let value = next_value(&info).ok_or("no value follows the current one")?;
     let mut session = Session::at(1); // OpenSession took 0
     let mut out = [0; 64];
-    let made = session.set_value(layout, s, info.DataType, value.bytes(), &mut out).map_err(|why| format!("refusal {}", why.number()))?;
+    let made =
+        session.set_value(layout, s, info.DataType, value.bytes(), &mut out).map_err(|why| format!("refusal {}", why.number()))?;
     println!("{}", made.bytes.iter().map(|byte| format!("{byte:02x}")).collect::<String>());
     Ok(())
 }
@@ -55,9 +59,12 @@ fn set_next(layout: PropLayout, s: &[u8]) -> Result<(), String> {
 fn main() -> ExitCode {
     let word = std::env::args().nth(1).unwrap_or("crate".into());
     let hex = std::env::args().nth(2).unwrap_or(DESCRIPTION.into());
-    let (Some(layout), Some(s)) = (read_layout(&word), read_hex(&hex)) else {
-        eprintln!("the layout is crate or book, the description two small hexadecimal digits a byte");
-        return ExitCode::from(2);
+    let (layout, s) = match (read_layout(&word), read_hex(&hex)) {
+        (Some(layout), Some(s)) => (layout, s),
+        _ => {
+            eprintln!("the layout is crate or book, the description two small hexadecimal digits a byte");
+            return ExitCode::from(2);
+        }
     };
     match set_next(layout, &s) {
         Ok(()) => ExitCode::SUCCESS,

@@ -348,7 +348,14 @@ fn place(word: i64) -> Option<(usize, usize)> {
     (word != 0).then_some((word as usize / 65536, word as usize % 65536))
 }
 
-pub(crate) fn path(handles: &[u32], parents: &[u16], ends: &[u32], names: &[u8], place: usize, out: &mut [u8]) -> Result<usize, Refusal> {
+pub(crate) fn path(
+    handles: &[u32],
+    parents: &[u16],
+    ends: &[u32],
+    names: &[u8],
+    place: usize,
+    out: &mut [u8],
+) -> Result<usize, Refusal> {
     told(unsafe {
         ptp_path(
             handles.as_ptr(),
@@ -397,7 +404,8 @@ pub(crate) fn read_record(s: &[u8]) -> Result<[u64; 9], Refusal> {
 /// The bytes written; then the records and the bytes that were left out.
 pub(crate) fn copy_recording(s: &[u8], out: &mut [u8]) -> Result<[usize; 3], Refusal> {
     let mut left = [0; 2];
-    let count = told(unsafe { ptp_copy_recording(s.as_ptr(), s.len(), out.as_mut_ptr(), out.len(), left.as_mut_ptr(), left.len()) })?;
+    let count =
+        told(unsafe { ptp_copy_recording(s.as_ptr(), s.len(), out.as_mut_ptr(), out.len(), left.as_mut_ptr(), left.len()) })?;
     Ok([count, left[0] as usize, left[1] as usize])
 }
 
@@ -644,7 +652,8 @@ mod tests {
         let copied = |s: &[u8], room: usize, numbers: usize| {
             let (mut out, mut left) = ([0xA5; 20], [KEPT; 3]);
             let (lent, numbered) = (&mut out[..room], &mut left[..numbers]);
-            let answer = unsafe { ptp_copy_recording(s.as_ptr(), s.len(), lent.as_mut_ptr(), room, numbered.as_mut_ptr(), numbers) };
+            let answer =
+                unsafe { ptp_copy_recording(s.as_ptr(), s.len(), lent.as_mut_ptr(), room, numbered.as_mut_ptr(), numbers) };
             (told(answer), out, left)
         };
         for (room, numbers) in [(18, 0), (18, 1), (17, 2), (0, 0)] {

@@ -4,6 +4,12 @@ use core::marker::PhantomData;
 use core::slice::ChunksExact;
 
 /// An item of an array: an integer, or a pair (high, low) for 128 bits.
+///
+/// ```
+/// use ptp_proved::PtpItem;
+/// assert_eq!(<u16 as PtpItem>::read(&[2, 1]), 258);
+/// assert_eq!(<(u64, u64) as PtpItem>::SIZE, 16);
+/// ```
 pub trait PtpItem: Copy {
     /// How many bytes an item takes.
     const SIZE: usize;
@@ -38,6 +44,15 @@ impl PtpItem for (u64, u64) {
 }
 
 /// The items of an array, read from the caller's bytes as they are asked for.
+///
+/// ```
+/// let array = ptp_proved::PtpReader::new(&[2, 0, 0, 0, 7, 0, 8, 0]).read_ptp_u16_vec()?;
+/// assert_eq!((array.len(), array.get(1), array.get(2)), (2, Some(8), None));
+/// for item in array {
+///     assert!(item > 6);
+/// }
+/// # Ok::<(), ptp_proved::Refusal>(())
+/// ```
 #[derive(Clone, Copy, PartialEq, Eq, Hash)]
 pub struct PtpArray<'a, T> {
     bytes: &'a [u8],
@@ -45,6 +60,12 @@ pub struct PtpArray<'a, T> {
 }
 
 /// An array's items, one after the other.
+///
+/// ```
+/// let mut items = ptp_proved::PtpReader::new(&[2, 0, 0, 0, 7, 8]).read_ptp_u8_vec()?.iter();
+/// assert_eq!((items.len(), items.next(), items.next(), items.next()), (2, Some(7), Some(8), None));
+/// # Ok::<(), ptp_proved::Refusal>(())
+/// ```
 pub type Items<'a, T> = core::iter::Map<ChunksExact<'a, u8>, fn(&'a [u8]) -> T>;
 
 impl<'a, T> PtpArray<'a, T> {
@@ -65,6 +86,7 @@ impl<'a, T: PtpItem> PtpArray<'a, T> {
         self.bytes.len() / T::SIZE
     }
 
+    /// Whether there is none.
     pub fn is_empty(&self) -> bool {
         self.bytes.is_empty()
     }
@@ -78,6 +100,27 @@ impl<'a, T: PtpItem> PtpArray<'a, T> {
     /// In order; one step costs one item.
     pub fn iter(&self) -> Items<'a, T> {
         self.bytes.chunks_exact(T::SIZE).map(T::read)
+    }
+}
+
+#[cfg(feature = "alloc")]
+impl<T: PtpItem> PtpArray<'_, T> {
+    /// Its items, allocated.
+    ///
+    /// ```
+    /// let array = ptp_proved::PtpReader::new(&[1, 0, 0, 0, 7, 0]).read_ptp_u16_vec()?;
+    /// assert_eq!(array.to_vec(), [7]);
+    /// # Ok::<(), ptp_proved::Refusal>(())
+    /// ```
+    pub fn to_vec(&self) -> alloc::vec::Vec<T> {
+        self.iter().collect()
+    }
+}
+
+#[cfg(feature = "alloc")]
+impl<T: PtpItem> From<PtpArray<'_, T>> for alloc::vec::Vec<T> {
+    fn from(array: PtpArray<'_, T>) -> Self {
+        array.to_vec()
     }
 }
 

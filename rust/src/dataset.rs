@@ -56,21 +56,43 @@ impl<'a, 'n> Row<'a, 'n> {
 }
 
 /// What a camera says of itself.
-#[derive(Clone, Copy, Debug, PartialEq, Eq)]
+///
+/// ```
+/// let mut s = vec![0; 35];
+/// s[0] = 100;
+/// let (info, taken) = ptp_proved::PtpDeviceInfo::decode(&s)?;
+/// assert_eq!((info.Version, info.Model.is_empty(), taken), (100, true, 35));
+/// # Ok::<(), ptp_proved::Refusal>(())
+/// ```
+#[derive(Clone, Copy, Debug, PartialEq, Eq, Hash)]
 pub struct PtpDeviceInfo<'a> {
+    /// The version of the standard, times 100.
     pub Version: u16,
+    /// The number of the maker's extension.
     pub VendorExID: u32,
+    /// Its version, times 100.
     pub VendorExVersion: u16,
+    /// Its description.
     pub VendorExtensionDesc: PtpString<'a>,
+    /// The mode that the camera is in.
     pub FunctionalMode: u16,
+    /// The codes of its operations.
     pub OperationsSupported: PtpArray<'a, u16>,
+    /// The codes of its events.
     pub EventsSupported: PtpArray<'a, u16>,
+    /// The codes of its properties.
     pub DevicePropertiesSupported: PtpArray<'a, u16>,
+    /// The formats that it makes.
     pub CaptureFormats: PtpArray<'a, u16>,
+    /// The formats that it holds.
     pub ImageFormats: PtpArray<'a, u16>,
+    /// Who made it.
     pub Manufacturer: PtpString<'a>,
+    /// Which model it is.
     pub Model: PtpString<'a>,
+    /// The version of its firmware.
     pub DeviceVersion: PtpString<'a>,
+    /// Its serial number.
     pub SerialNumber: PtpString<'a>,
 }
 
@@ -101,26 +123,53 @@ impl<'a> PtpDeviceInfo<'a> {
 }
 
 /// What a camera says of an object that it holds.
-#[derive(Clone, Copy, Debug, PartialEq, Eq)]
+///
+/// ```
+/// let mut s = vec![0; 56];
+/// s[0] = 1;
+/// let (info, taken) = ptp_proved::PtpObjectInfo::decode(&s)?;
+/// assert_eq!((info.StorageID, info.Filename.len(), taken), (1, 0, 56));
+/// # Ok::<(), ptp_proved::Refusal>(())
+/// ```
+#[derive(Clone, Copy, Debug, PartialEq, Eq, Hash)]
 pub struct PtpObjectInfo<'a> {
+    /// The storage that it lies in.
     pub StorageID: u32,
+    /// Its format's code.
     pub ObjectFormat: u16,
+    /// 0 where it may be changed.
     pub ProtectionStatus: u16,
+    /// Its length in bytes.
     pub ObjectCompressedSize: u32,
+    /// The thumbnail's format.
     pub ThumbFormat: u16,
+    /// The thumbnail's length in bytes.
     pub ThumbCompressedSize: u32,
+    /// The thumbnail's width.
     pub ThumbPixWidth: u32,
+    /// The thumbnail's height.
     pub ThumbPixHeight: u32,
+    /// The width in pixels.
     pub ImagePixWidth: u32,
+    /// The height in pixels.
     pub ImagePixHeight: u32,
+    /// Bits of a pixel.
     pub ImageBitDepth: u32,
+    /// The handle of the object that it lies in; 0 for none.
     pub ParentObject: u32,
+    /// Which kind of association it is; 0 for none.
     pub AssociationType: u16,
+    /// What belongs to that kind.
     pub AssociationDesc: u32,
+    /// Its place in a sequence.
     pub SequenceNumber: u32,
+    /// Its name.
     pub Filename: PtpString<'a>,
+    /// When it was taken.
     pub CaptureDate: PtpString<'a>,
+    /// When it was changed last.
     pub ModificationDate: PtpString<'a>,
+    /// Words for it.
     pub Keywords: PtpString<'a>,
 }
 
@@ -156,15 +205,31 @@ impl<'a> PtpObjectInfo<'a> {
 }
 
 /// What a camera says of a store.
-#[derive(Clone, Copy, Debug, PartialEq, Eq)]
+///
+/// ```
+/// let mut s = vec![0; 28];
+/// s[0] = 3;
+/// let (info, taken) = ptp_proved::PtpStorageInfo::decode(&s)?;
+/// assert_eq!((info.StorageType, info.MaxCapacity, taken), (3, 0, 28));
+/// # Ok::<(), ptp_proved::Refusal>(())
+/// ```
+#[derive(Clone, Copy, Debug, PartialEq, Eq, Hash)]
 pub struct PtpStorageInfo<'a> {
+    /// Which kind of storage it is.
     pub StorageType: u16,
+    /// Which kind of file system it has.
     pub FilesystemType: u16,
+    /// Whether it can be written.
     pub AccessCapability: u16,
+    /// Its size in bytes.
     pub MaxCapacity: u64,
+    /// How many bytes are free.
     pub FreeSpaceInBytes: u64,
+    /// How many pictures have room.
     pub FreeSpaceInImages: u32,
+    /// Its description.
     pub StorageDescription: PtpString<'a>,
+    /// Its label.
     pub VolumeLabel: PtpString<'a>,
 }
 

@@ -8,7 +8,11 @@
 //! lies, each byte written. What stands in Rust takes these parts out of the caller's bytes and reads their integers.
 #![no_std]
 #![allow(non_snake_case)] // the fields' names are those of ptp 0.5.0
+#![deny(missing_docs)]
 #![deny(unsafe_code)] // archive.rs alone lifts this
+
+#[cfg(feature = "alloc")]
+extern crate alloc;
 
 mod archive;
 mod array;
@@ -32,18 +36,23 @@ pub use array::{Items, PtpArray, PtpItem};
 pub use code::{CommandCode, ResponseCode, StandardCommandCode, StandardResponseCode};
 pub use dataset::{PtpDeviceInfo, PtpObjectInfo, PtpStorageInfo};
 pub use listing::{list_recording, list_window, write_ending, write_heading, Listed, Tally};
-pub use mending::{mend_recording, Mended};
+pub use mending::{mend_recording, Dropped, Mended};
 pub use payload::{object_count, object_handles, storage_ids, storage_info};
 pub use property::{newer_value, tidy_property, Newer, PropLayout, PtpFormData, PtpPropInfo, PtpValues, Values};
 pub use reader::{item, unit, PtpReader};
 pub use record::{
-    copy_recording, read_container, read_record, write_container, write_record, Copied, PtpContainer, PtpContainerType, PtpRecord, RecordKind,
-    Recorder,
+    copy_recording, read_container, read_record, write_container, write_record, Copied, PtpContainer, PtpContainerType, PtpRecord,
+    RecordKind, Recorder,
 };
 pub use refusal::Refusal;
 pub use session::{find_answer, Answer, Made, Session};
 pub use settings::{entry_bytes, Edition, Entries, Kept, Setting, Settings};
-pub use text::{utf8, utf8_len, PtpString};
-pub use tree::{ObjectTable, Paths};
+pub use text::{utf8, utf8_len, Chars, PtpString};
+pub use tree::{EachPath, ObjectTable, Paths};
 pub use value::{PtpDataType, PtpValue};
 pub use writer::{tidy_device, tidy_object, tidy_storage, tidy_value, write_array, write_text};
+
+// The example of README.md is run with the others.
+#[cfg(doctest)]
+#[doc = include_str!("../README.md")]
+struct Readme;

@@ -3,19 +3,37 @@ use crate::archive;
 use crate::refusal::Refusal;
 
 /// Where a listing stands: the place of the next record in the recording, and how many whole records stand before it.
+///
+/// ```
+/// use ptp_proved::{write_ending, Tally};
+/// let mut out = [0; 64];
+/// assert_eq!(write_ending(Tally { place: 18, records: 1 }, &mut out)?, b"records 1 bytes 18\n");
+/// # Ok::<(), ptp_proved::Refusal>(())
+/// ```
 #[derive(Clone, Copy, Debug, Default, PartialEq, Eq, Hash)]
 pub struct Tally {
+    /// where the next record stands
     pub place: u64,
+    /// how many stand before it
     pub records: u64,
 }
 
 /// What was listed of a window.
+///
+/// ```
+/// use ptp_proved::{list_window, Tally};
+/// let mut out = [0; 128];
+/// // a record that is cut waits for more bytes
+/// let listed = list_window(&[18, 0, 0], false, Tally::default(), &mut out);
+/// assert_eq!((listed.text, listed.used, listed.stopped), (&b""[..], 0, false));
+/// ```
 #[derive(Clone, Copy, Debug, PartialEq, Eq, Hash)]
 pub struct Listed<'o> {
     /// the lines
     pub text: &'o [u8],
     /// how many bytes of the window they are of
     pub used: usize,
+    /// where the listing stands now
     pub tally: Tally,
     /// a refused record ended the listing
     pub stopped: bool,

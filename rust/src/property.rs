@@ -5,7 +5,15 @@ use crate::refusal::Refusal;
 use crate::value::PtpValue;
 
 /// Which layout a description has. The caller names it: some bytes fit both, and nothing guesses.
-#[derive(Clone, Copy, Debug, PartialEq, Eq)]
+///
+/// ```
+/// use ptp_proved::{PropLayout, PtpPropInfo};
+/// let s = b"\x01\x50\x02\0\0\x01\x64\0\0";
+/// assert_eq!(PtpPropInfo::decode(PropLayout::Crate, s)?.0.Current.to_string(), "0");
+/// assert_eq!(PtpPropInfo::decode(PropLayout::Book, s)?.0.Current.to_string(), "100");
+/// # Ok::<(), ptp_proved::Refusal>(())
+/// ```
+#[derive(Clone, Copy, Debug, PartialEq, Eq, Hash)]
 pub enum PropLayout {
     /// With the `IsEnable` byte behind `GetSet`.
     Crate,
@@ -20,23 +28,60 @@ impl PropLayout {
 }
 
 /// Which values a property may have.
-#[derive(Clone, Copy, Debug, PartialEq, Eq)]
+///
+/// ```
+/// use ptp_proved::{PropLayout, PtpFormData, PtpPropInfo};
+/// let s = b"\x01\x50\x02\0\0\x01\x64\x32\x01\0\x64\x01";
+/// match PtpPropInfo::decode(PropLayout::Crate, s)?.0.Form {
+///     PtpFormData::Range { minValue, maxValue, step } => assert_eq!(format!("{minValue} {maxValue} {step}"), "0 100 1"),
+///     other => panic!("{other:?}"),
+/// }
+/// # Ok::<(), ptp_proved::Refusal>(())
+/// ```
+#[derive(Clone, Copy, Debug, PartialEq, Eq, Hash)]
 pub enum PtpFormData<'a> {
+    /// nothing is said of them
     None,
-    Range { minValue: PtpValue<'a>, maxValue: PtpValue<'a>, step: PtpValue<'a> },
-    Enumeration { array: PtpValues<'a> },
+    /// those from the least to the greatest, in steps
+    Range {
+        /// the least
+        minValue: PtpValue<'a>,
+        /// the greatest
+        maxValue: PtpValue<'a>,
+        /// from one to the next
+        step: PtpValue<'a>,
+    },
+    /// those of a list
+    Enumeration {
+        /// the list
+        array: PtpValues<'a>,
+    },
 }
 
 /// What a camera says of a property.
-#[derive(Clone, Copy, Debug, PartialEq, Eq)]
+///
+/// ```
+/// use ptp_proved::{PropLayout, PtpPropInfo};
+/// let (info, taken) = PtpPropInfo::decode(PropLayout::Crate, b"\x01\x50\x02\0\0\x01\x64\x32\x01\0\x64\x01")?;
+/// assert_eq!((info.PropertyCode, info.IsEnable, taken), (0x5001, Some(1), 12));
+/// assert_eq!(info.Current.to_string(), "50");
+/// # Ok::<(), ptp_proved::Refusal>(())
+/// ```
+#[derive(Clone, Copy, Debug, PartialEq, Eq, Hash)]
 pub struct PtpPropInfo<'a> {
+    /// The property's code.
     pub PropertyCode: u16,
+    /// The type code of its values.
     pub DataType: u16,
+    /// 1 where it can be set.
     pub GetSet: u8,
     /// `None` in every reading of the book's layout, and in no other.
     pub IsEnable: Option<u8>,
+    /// The value that it is made with.
     pub FactoryDefault: PtpValue<'a>,
+    /// The value that it has.
     pub Current: PtpValue<'a>,
+    /// Which values it may have.
     pub Form: PtpFormData<'a>,
 }
 
@@ -92,6 +137,16 @@ fn form<'a>(row: &mut Row<'a, '_>, layout: PropLayout, code: u16, dataset: &'a [
 }
 
 /// The values of a property's list, as they lie in the description.
+///
+/// ```
+/// use ptp_proved::{PropLayout, PtpFormData, PtpPropInfo};
+/// let s = b"\x0D\x50\x02\0\x01\x01\x05\x05\x02\x02\0\x05\x09";
+/// if let PtpFormData::Enumeration { array } = PtpPropInfo::decode(PropLayout::Crate, s)?.0.Form {
+///     assert_eq!((array.len(), array.nth(1)?.bytes()), (2, &[9][..]));
+///     assert_eq!(array.iter().map(|value| value.to_string()).collect::<Vec<_>>(), ["5", "9"]);
+/// }
+/// # Ok::<(), ptp_proved::Refusal>(())
+/// ```
 #[derive(Clone, Copy)]
 pub struct PtpValues<'a> {
     layout: PropLayout,
@@ -107,6 +162,7 @@ impl<'a> PtpValues<'a> {
         self.count
     }
 
+    /// Whether there is none.
     pub fn is_empty(&self) -> bool {
         self.count == 0
     }
@@ -124,7 +180,17 @@ impl<'a> PtpValues<'a> {
 }
 
 /// A list's values, one after the other: each step is the archive's, and all steps cost what the list's bytes cost.
-#[derive(Clone)]
+///
+/// ```
+/// use ptp_proved::{PropLayout, PtpFormData, PtpPropInfo};
+/// let s = b"\x0D\x50\x02\0\x01\x01\x05\x05\x02\x02\0\x05\x09";
+/// if let PtpFormData::Enumeration { array } = PtpPropInfo::decode(PropLayout::Crate, s)?.0.Form {
+///     let mut values = array.iter();
+///     assert_eq!((values.len(), values.next().unwrap().bytes(), values.len()), (2, &[5][..], 1));
+/// }
+/// # Ok::<(), ptp_proved::Refusal>(())
+/// ```
+#[derive(Clone, Debug)]
 pub struct Values<'a> {
     code: u16,
     bytes: &'a [u8],
@@ -178,6 +244,14 @@ impl PartialEq for PtpValues<'_> {
 
 impl Eq for PtpValues<'_> {}
 
+impl core::hash::Hash for PtpValues<'_> {
+    fn hash<H: core::hash::Hasher>(&self, state: &mut H) {
+        self.code.hash(state);
+        self.count.hash(state);
+        self.iter().for_each(|value| value.hash(state));
+    }
+}
+
 impl core::fmt::Debug for PtpValues<'_> {
     fn fmt(&self, f: &mut core::fmt::Formatter<'_>) -> core::fmt::Result {
         f.debug_list().entries(self.iter()).finish()
@@ -185,13 +259,23 @@ impl core::fmt::Debug for PtpValues<'_> {
 }
 
 /// The newer value's bytes, and whose part they are.
-#[derive(Clone, Copy, Debug, PartialEq, Eq)]
+///
+/// ```
+/// use ptp_proved::{newer_value, Newer, PropLayout};
+/// let s = b"\x01\x50\x02\0\0\x01\x64\x32\x01\0\x64\x01";
+/// assert_eq!(newer_value(PropLayout::Crate, s, &[75]), Newer::Payload(&[75]));
+/// assert_eq!(newer_value(PropLayout::Crate, s, &[75, 0]), Newer::Description(&[50]));
+/// ```
+#[derive(Clone, Copy, Debug, PartialEq, Eq, Hash)]
 pub enum Newer<'a> {
+    /// a part of the description
     Description(&'a [u8]),
+    /// the whole payload
     Payload(&'a [u8]),
 }
 
 impl<'a> Newer<'a> {
+    /// The value's bytes.
     pub fn bytes(&self) -> &'a [u8] {
         match *self {
             Newer::Description(part) | Newer::Payload(part) => part,

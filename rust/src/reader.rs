@@ -36,10 +36,12 @@ macro_rules! integers {
 }
 
 impl<'a> PtpReader<'a> {
+    /// At the start of the bytes.
     pub fn new(bytes: &'a [u8]) -> Self {
         PtpReader::at(bytes, 0)
     }
 
+    /// At a place of them.
     pub fn at(bytes: &'a [u8], place: usize) -> Self {
         PtpReader { bytes, place }
     }

@@ -5,16 +5,27 @@ use crate::refusal::Refusal;
 use crate::session::Made;
 
 /// A container's kind.
-#[derive(Clone, Copy, Debug, PartialEq, Eq)]
+///
+/// ```
+/// use ptp_proved::PtpContainerType;
+/// assert_eq!(PtpContainerType::from_u16(3), Some(PtpContainerType::Response));
+/// assert_eq!(PtpContainerType::from_u16(5), None);
+/// ```
+#[derive(Clone, Copy, Debug, PartialEq, Eq, Hash)]
 #[repr(u16)]
 pub enum PtpContainerType {
+    /// what the camera is to do
     Command = 1,
+    /// what belongs to a command, either way
     Data = 2,
+    /// how the camera ended it
     Response = 3,
+    /// what the camera tells by itself
     Event = 4,
 }
 
 impl PtpContainerType {
+    /// The kind of a number, 1 to 4.
     pub fn from_u16(kind: u16) -> Option<PtpContainerType> {
         use PtpContainerType::*;
         [Command, Data, Response, Event].into_iter().find(|&known| known as u16 == kind)
@@ -22,11 +33,23 @@ impl PtpContainerType {
 }
 
 /// A container: its kind, code, transaction number and payload.
-#[derive(Clone, Copy, Debug, PartialEq, Eq)]
+///
+/// ```
+/// let s = b"\x0D\0\0\0\x02\0\x16\x10\x07\0\0\0A";
+/// let (container, next) = ptp_proved::read_container(s, 0)?;
+/// assert_eq!((container.code, container.tid, container.payload, next), (0x1016, 7, &b"A"[..], 13));
+/// assert_eq!(container.encode(&mut [0; 16])?, s);
+/// # Ok::<(), ptp_proved::Refusal>(())
+/// ```
+#[derive(Clone, Copy, Debug, PartialEq, Eq, Hash)]
 pub struct PtpContainer<'a> {
+    /// its kind
     pub kind: PtpContainerType,
+    /// the command's or the response's code, by its kind
     pub code: u16,
+    /// the transaction number
     pub tid: u32,
+    /// what follows its twelve bytes
     pub payload: &'a [u8],
 }
 
@@ -128,19 +151,37 @@ impl<'o> Recorder<'o> {
 }
 
 /// Which way a record's container went, or that the record is a note: those are read, and no more written.
-#[derive(Clone, Copy, Debug, PartialEq, Eq)]
+///
+/// ```
+/// use ptp_proved::{read_record, RecordKind};
+/// assert_eq!(read_record(b"\x07\0\0\0\x03\0A")?.0.kind, RecordKind::Note);
+/// # Ok::<(), ptp_proved::Refusal>(())
+/// ```
+#[derive(Clone, Copy, Debug, PartialEq, Eq, Hash)]
 #[repr(u16)]
 pub enum RecordKind {
+    /// the container came from the camera
     FromCamera = 1,
+    /// it was sent to the camera
     ToCamera = 2,
+    /// a note
     Note = 3,
 }
 
 /// A record; a note has no container, and any other record's container is its whole body.
-#[derive(Clone, Copy, Debug, PartialEq, Eq)]
+///
+/// ```
+/// let (record, taken) = ptp_proved::read_record(b"\x12\0\0\0\x01\0\x0C\0\0\0\x03\0\x01\x20\0\0\0\0")?;
+/// assert_eq!((record.container.unwrap().code, taken), (0x2001, 18));
+/// # Ok::<(), ptp_proved::Refusal>(())
+/// ```
+#[derive(Clone, Copy, Debug, PartialEq, Eq, Hash)]
 pub struct PtpRecord<'a> {
+    /// its kind
     pub kind: RecordKind,
+    /// what follows its six bytes
     pub body: &'a [u8],
+    /// the container that its body is
     pub container: Option<PtpContainer<'a>>,
 }
 
@@ -167,10 +208,20 @@ pub fn read_record(s: &[u8]) -> Result<(PtpRecord<'_>, usize), Refusal> {
 }
 
 /// A recording without its notes, and how many records and bytes, headers included, were left out.
-#[derive(Clone, Copy, Debug, PartialEq, Eq)]
+///
+/// ```
+/// let mut out = [0; 8];
+/// let copied = ptp_proved::copy_recording(b"\x07\0\0\0\x03\0A", &mut out)?;
+/// assert_eq!((copied.bytes.len(), copied.left_records, copied.left_bytes), (0, 1, 7));
+/// # Ok::<(), ptp_proved::Refusal>(())
+/// ```
+#[derive(Clone, Copy, Debug, PartialEq, Eq, Hash)]
 pub struct Copied<'a> {
+    /// the records, end to end
     pub bytes: &'a [u8],
+    /// how many notes were left out
     pub left_records: usize,
+    /// how many bytes those are
     pub left_bytes: usize,
 }
 

@@ -5,12 +5,26 @@ use core::fmt;
 ///
 /// What could not be read is told with `at`, the place of the first byte of the field that failed: an array's count, a string's count byte,
 /// a list's failing value. It counts in the bytes that were lent; of an object's name in that name.
+///
+/// ```
+/// use ptp_proved::{object_count, Refusal};
+/// let why = object_count(&[1, 0]).unwrap_err();
+/// assert_eq!((why, why.number(), why.place()), (Refusal::END { at: 0 }, 1, Some(0)));
+/// assert_eq!(why.to_string(), "the input stops before a field is whole (at byte 0)");
+/// assert_eq!(Refusal::from_number(9, 0), Some(Refusal::ROOM));
+/// ```
 #[derive(Clone, Copy, Debug, PartialEq, Eq, Hash)]
 pub enum Refusal {
     /// the input stops before a field is whole
-    END { at: usize },
+    END {
+        /// where that field begins
+        at: usize,
+    },
     /// a string's units hold an unpaired surrogate
-    TEXT { at: usize },
+    TEXT {
+        /// where that string begins
+        at: usize,
+    },
     /// bytes follow what must fill its place
     TRAIL,
     /// a container's kind is not 1 to 4
@@ -69,6 +83,30 @@ impl Refusal {
         }
     }
 
+    // Without its place.
+    fn sentence(self) -> &'static str {
+        match self {
+            END { .. } => "the input stops before a field is whole",
+            TEXT { .. } => "a string holds an unpaired surrogate",
+            TRAIL => "bytes follow what must fill its place",
+            KIND => "a container's kind is not 1 to 4",
+            LENGTH => "a container's length is below 12",
+            SIZE => "a container's bytes stop before its announced length",
+            TID => "a container carries another transaction number",
+            NOPHASE => "the containers stop, and no Response was seen",
+            ROOM => "the output is too short",
+            COUNT => "there are too many parameters or items, or the payload is too long",
+            TABLE => "the object table breaks its rule",
+            PLACE => "there is no such index",
+            RECORD => "a record or setting is none",
+            LONG => "a record's body is over 65,000 bytes",
+            TYPE => "the type is another than the description's, or none that can be set",
+            VALUE => "the description does not allow the value",
+            EDITION => "a setting's kind is not one of the edition",
+            FULL => "256 settings with other keys are held",
+        }
+    }
+
     /// The refusal of a number, if there is one, with its place, which only 1 and 2 have.
     pub fn from_number(number: u64, at: usize) -> Option<Refusal> {
         match number {
@@ -81,8 +119,12 @@ impl Refusal {
 
 impl fmt::Display for Refusal {
     fn fmt(&self, f: &mut fmt::Formatter<'_>) -> fmt::Result {
-        write!(f, "refusal {} ({:?})", self.number(), self)
+        match self.place() {
+            Some(at) => write!(f, "{} (at byte {})", self.sentence(), at),
+            None => f.write_str(self.sentence()),
+        }
     }
 }
 
+#[cfg(core_error)]
 impl core::error::Error for Refusal {}

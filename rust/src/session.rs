@@ -6,9 +6,18 @@ use crate::property::PropLayout;
 use crate::refusal::Refusal;
 
 /// A command that was made: the number that it was sent with, which its answer carries, and its bytes.
+///
+/// ```
+/// let mut out = [0; 64];
+/// let made = ptp_proved::Session::at(7).command_with_data(0x1016, &[0x500D], b"AB", &mut out)?;
+/// assert_eq!((made.number, made.command().len(), made.data().len()), (7, 16, 14));
+/// # Ok::<(), ptp_proved::Refusal>(())
+/// ```
 #[derive(Clone, Copy, Debug, PartialEq, Eq, Hash)]
 pub struct Made<'o> {
+    /// the number that it was sent with
     pub number: u32,
+    /// all its bytes
     pub bytes: &'o [u8],
     end: usize,
 }
@@ -36,7 +45,15 @@ impl<'o> Made<'o> {
 /// OpenSession is sent with 0, and 1 comes next, also where the session is open. A closed session sends any other command with 0, and stays
 /// closed. An open one sends its number: CloseSession closes it, after any other comes one more, and 1 after 4,294,967,294 or above. Both
 /// commands are known by their code. A refused command leaves the state. The number that was sent is `Made::number`.
-#[derive(Clone, Debug, Default, PartialEq, Eq)]
+///
+/// ```
+/// let (mut session, mut out) = (ptp_proved::Session::new(), [0; 64]);
+/// assert_eq!(session.open_session(&mut out)?.number, 0);
+/// assert_eq!(session.get_storageids(&mut out)?.number, 1);
+/// assert_eq!(session.number(), 2);
+/// # Ok::<(), ptp_proved::Refusal>(())
+/// ```
+#[derive(Clone, Debug, Default, PartialEq, Eq, Hash)]
 pub struct Session {
     number: u32,
 }
@@ -96,26 +113,32 @@ impl Session {
 
 /// The commands of the camera calls. A filter of `None` is sent as 0; the handle of the roots is 0xFFFFFFFF, that of all objects 0.
 impl Session {
+    /// Asks what the camera is: [`PtpDeviceInfo::decode`](crate::PtpDeviceInfo::decode) reads the payload. Refusal: ROOM.
     pub fn get_device_info<'o>(&mut self, out: &'o mut [u8]) -> Result<Made<'o>, Refusal> {
         self.command(StandardCommandCode::GetDeviceInfo, &[0, 0, 0], out)
     }
 
+    /// Opens session 3. Refusal: ROOM.
     pub fn open_session<'o>(&mut self, out: &'o mut [u8]) -> Result<Made<'o>, Refusal> {
         self.command(StandardCommandCode::OpenSession, &[3, 0, 0], out)
     }
 
+    /// Closes the session. Refusal: ROOM.
     pub fn close_session<'o>(&mut self, out: &'o mut [u8]) -> Result<Made<'o>, Refusal> {
         self.command(StandardCommandCode::CloseSession, &[], out)
     }
 
+    /// Asks for the storages: [`storage_ids`](crate::storage_ids) reads the payload. Refusal: ROOM.
     pub fn get_storageids<'o>(&mut self, out: &'o mut [u8]) -> Result<Made<'o>, Refusal> {
         self.command(StandardCommandCode::GetStorageIDs, &[], out)
     }
 
+    /// Asks what a storage is: [`storage_info`](crate::storage_info) reads the payload. Refusal: ROOM.
     pub fn get_storage_info<'o>(&mut self, storage_id: u32, out: &'o mut [u8]) -> Result<Made<'o>, Refusal> {
         self.command(StandardCommandCode::GetStorageInfo, &[storage_id], out)
     }
 
+    /// Asks how many objects there are: [`object_count`](crate::object_count) reads the payload. Refusal: ROOM.
     pub fn get_numobjects<'o>(
         &mut self,
         storage_id: u32,
@@ -126,6 +149,7 @@ impl Session {
         self.command(StandardCommandCode::GetNumObjects, &[storage_id, filter.unwrap_or(0), handle_id], out)
     }
 
+    /// Asks for their handles: [`object_handles`](crate::object_handles) reads the payload. Refusal: ROOM.
     pub fn get_objecthandles<'o>(
         &mut self,
         storage_id: u32,
@@ -142,34 +166,63 @@ impl Session {
     }
 
     /// Of those that stand in no folder.
-    pub fn get_numobjects_roots<'o>(&mut self, storage_id: u32, filter: Option<u32>, out: &'o mut [u8]) -> Result<Made<'o>, Refusal> {
+    pub fn get_numobjects_roots<'o>(
+        &mut self,
+        storage_id: u32,
+        filter: Option<u32>,
+        out: &'o mut [u8],
+    ) -> Result<Made<'o>, Refusal> {
         self.get_numobjects(storage_id, 0xFFFFFFFF, filter, out)
     }
 
     /// Of all objects of the storage.
-    pub fn get_objecthandles_all<'o>(&mut self, storage_id: u32, filter: Option<u32>, out: &'o mut [u8]) -> Result<Made<'o>, Refusal> {
+    pub fn get_objecthandles_all<'o>(
+        &mut self,
+        storage_id: u32,
+        filter: Option<u32>,
+        out: &'o mut [u8],
+    ) -> Result<Made<'o>, Refusal> {
         self.get_objecthandles(storage_id, 0, filter, out)
     }
 
     /// Of those that stand in no folder.
-    pub fn get_objecthandles_root<'o>(&mut self, storage_id: u32, filter: Option<u32>, out: &'o mut [u8]) -> Result<Made<'o>, Refusal> {
+    pub fn get_objecthandles_root<'o>(
+        &mut self,
+        storage_id: u32,
+        filter: Option<u32>,
+        out: &'o mut [u8],
+    ) -> Result<Made<'o>, Refusal> {
         self.get_objecthandles(storage_id, 0xFFFFFFFF, filter, out)
     }
 
+    /// Asks what an object is: [`PtpObjectInfo::decode`](crate::PtpObjectInfo::decode) reads the payload. Refusal: ROOM.
     pub fn get_objectinfo<'o>(&mut self, handle: u32, out: &'o mut [u8]) -> Result<Made<'o>, Refusal> {
         self.command(StandardCommandCode::GetObjectInfo, &[handle], out)
     }
 
+    /// Asks for an object's bytes, which are the payload. Refusal: ROOM.
     pub fn get_object<'o>(&mut self, handle: u32, out: &'o mut [u8]) -> Result<Made<'o>, Refusal> {
         self.command(StandardCommandCode::GetObject, &[handle], out)
     }
 }
 
 /// How a camera answered.
-#[derive(Clone, Copy, Debug, PartialEq, Eq)]
+///
+/// ```
+/// use ptp_proved::{find_answer, Answer};
+/// let busy = b"\x0C\0\0\0\x03\0\x19\x20\x07\0\0\0";
+/// assert_eq!(find_answer(busy, 7)?, (Answer::Response(0x2019), 12));
+/// # Ok::<(), ptp_proved::Refusal>(())
+/// ```
+#[derive(Clone, Copy, Debug, PartialEq, Eq, Hash)]
 pub enum Answer<'a> {
     /// Response Ok: the payload of the last Data container, and where it starts; empty and 0 without Data
-    Data { start: usize, payload: &'a [u8] },
+    Data {
+        /// where the payload starts in the bytes
+        start: usize,
+        /// the payload
+        payload: &'a [u8],
+    },
     /// another Response, with its code
     Response(u16),
 }

@@ -6,9 +6,20 @@ use crate::text::PtpString;
 use crate::value::PtpValue;
 
 /// Which entries a row may have: the first edition only those for any camera, the second also those for the camera of one serial.
-#[derive(Clone, Copy, Debug, PartialEq, Eq)]
+///
+/// ```
+/// use ptp_proved::{entry_bytes, Edition, Refusal, Settings};
+/// let mut out = [0; 32];
+/// let entry = entry_bytes(6, 0x5001, Some(&[0x30]), 2, &[50], &mut out)?;
+/// assert_eq!(Settings::read(Edition::One, entry), Err(Refusal::EDITION));
+/// assert_eq!(Settings::read(Edition::Two, entry)?.len(), 1);
+/// # Ok::<(), ptp_proved::Refusal>(())
+/// ```
+#[derive(Clone, Copy, Debug, PartialEq, Eq, Hash)]
 pub enum Edition {
+    /// for any camera
     One,
+    /// for any camera, and for the camera of one serial
     Two,
 }
 
@@ -19,14 +30,26 @@ impl Edition {
 }
 
 /// An entry as it lies in its row.
-#[derive(Clone, Copy, Debug, PartialEq, Eq)]
+///
+/// ```
+/// use ptp_proved::{entry_bytes, Edition, Settings};
+/// let mut out = [0; 32];
+/// let row = entry_bytes(6, 0x5001, Some(&[0x30]), 2, &[50], &mut out)?;
+/// let setting = Settings::read(Edition::Two, row)?.iter().next().unwrap();
+/// assert_eq!((setting.property, setting.serial.unwrap() == "0", setting.value.to_string()), (0x5001, true, "50".into()));
+/// # Ok::<(), ptp_proved::Refusal>(())
+/// ```
+#[derive(Clone, Copy, Debug, PartialEq, Eq, Hash)]
 pub struct Setting<'a> {
     /// all its bytes
     pub bytes: &'a [u8],
+    /// the number of the maker's extension
     pub vendor: u32,
+    /// the property's code
     pub property: u16,
     /// the camera's; `None` in an entry for any camera
     pub serial: Option<PtpString<'a>>,
+    /// the value
     pub value: PtpValue<'a>,
 }
 
@@ -53,15 +76,33 @@ fn setting(row: &[u8], start: usize, numbers: [u64; 9]) -> Setting<'_> {
 }
 
 /// What is kept of a property.
-#[derive(Clone, Copy, Debug, PartialEq, Eq)]
+///
+/// ```
+/// use ptp_proved::{entry_bytes, Edition, Settings};
+/// let mut out = [0; 32];
+/// let row = entry_bytes(6, 0x5001, None, 2, &[50], &mut out)?;
+/// let kept = Settings::read(Edition::Two, row)?.find(6, 0x5001, &[0x30]).unwrap();
+/// assert_eq!((kept.is_own, kept.value.bytes()), (false, &[50][..]));
+/// # Ok::<(), ptp_proved::Refusal>(())
+/// ```
+#[derive(Clone, Copy, Debug, PartialEq, Eq, Hash)]
 pub struct Kept<'a> {
     /// whether it is kept for the camera of the serial that was asked for; else it is for any
     pub is_own: bool,
+    /// the value
     pub value: PtpValue<'a>,
 }
 
 /// A row that was read whole: one entry for each key, at most 256.
-#[derive(Clone, Copy, Debug, PartialEq, Eq)]
+///
+/// ```
+/// use ptp_proved::{entry_bytes, Edition, Settings};
+/// let (mut lent, mut out) = ([0; 32], [0; 32]);
+/// let settings = Settings::read(Edition::Two, &[])?.store(entry_bytes(6, 0x5001, None, 2, &[50], &mut lent)?, &mut out)?;
+/// assert_eq!((settings.len(), settings.find(6, 0x5001, &[]).is_some()), (1, true));
+/// # Ok::<(), ptp_proved::Refusal>(())
+/// ```
+#[derive(Clone, Copy, Debug, PartialEq, Eq, Hash)]
 pub struct Settings<'a> {
     edition: Edition,
     row: &'a [u8],
@@ -81,6 +122,7 @@ impl<'a> Settings<'a> {
         self.count
     }
 
+    /// Whether there is none.
     pub fn is_empty(&self) -> bool {
         self.count == 0
     }
@@ -123,8 +165,26 @@ impl<'a> IntoIterator for Settings<'a> {
     }
 }
 
+impl<'a> IntoIterator for &Settings<'a> {
+    type Item = Setting<'a>;
+    type IntoIter = Entries<'a>;
+
+    fn into_iter(self) -> Entries<'a> {
+        self.iter()
+    }
+}
+
 /// A row's entries, one after the other.
-#[derive(Clone)]
+///
+/// ```
+/// use ptp_proved::{entry_bytes, Edition, Settings};
+/// let mut out = [0; 32];
+/// let row = entry_bytes(6, 0x5001, None, 2, &[50], &mut out)?;
+/// let mut entries = Settings::read(Edition::One, row)?.into_iter();
+/// assert_eq!((entries.len(), entries.next().unwrap().vendor, entries.len()), (1, 6, 0));
+/// # Ok::<(), ptp_proved::Refusal>(())
+/// ```
+#[derive(Clone, Debug)]
 pub struct Entries<'a> {
     settings: Settings<'a>,
     place: usize,
@@ -149,6 +209,8 @@ impl<'a> Iterator for Entries<'a> {
 }
 
 impl ExactSizeIterator for Entries<'_> {}
+
+impl core::iter::FusedIterator for Entries<'_> {}
 
 /// Lays the bytes of an entry out, for [`Settings::store`], which checks them: with the serial's units for one camera, without for any; the
 /// value's type and bytes. Refusals: COUNT for a serial of more than 254 units, which no count byte can tell; ROOM.

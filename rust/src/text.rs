@@ -1,10 +1,17 @@
 //! A string's units, in the caller's bytes.
 use crate::archive;
-use crate::array::PtpArray;
+use crate::array::{Items, PtpArray};
 use crate::refusal::Refusal;
 use core::fmt::{self, Write};
 
 /// A string that was read: UTF-16 units without an unpaired surrogate. The last, unread unit is no part of it.
+///
+/// ```
+/// let text = ptp_proved::PtpReader::new(b"\x03A\0\xE9\0\0\0").read_ptp_str()?;
+/// assert_eq!(text, "Aé");
+/// assert_eq!((text.len(), format!("{text:>4}")), (2, "  Aé".into()));
+/// # Ok::<(), ptp_proved::Refusal>(())
+/// ```
 #[derive(Clone, Copy, PartialEq, Eq, Hash)]
 pub struct PtpString<'a> {
     units: PtpArray<'a, u16>,
@@ -21,17 +28,53 @@ impl<'a> PtpString<'a> {
         self.units.len()
     }
 
+    /// Whether it has none.
     pub fn is_empty(&self) -> bool {
         self.units.is_empty()
     }
 
+    /// Its units.
     pub fn units(&self) -> PtpArray<'a, u16> {
         self.units
     }
 
     /// Its characters. A reading refuses an unpaired surrogate, so none has to be replaced.
-    pub fn chars(&self) -> impl Iterator<Item = char> + Clone + 'a {
-        char::decode_utf16(self.units.iter()).map(|read| read.unwrap_or(char::REPLACEMENT_CHARACTER))
+    pub fn chars(&self) -> Chars<'a> {
+        Chars { units: char::decode_utf16(self.units.iter()) }
+    }
+}
+
+/// A string's characters, one after the other.
+///
+/// ```
+/// let text = ptp_proved::PtpReader::new(b"\x02A\0\0\0").read_ptp_str()?;
+/// assert_eq!(text.chars().collect::<Vec<_>>(), ['A']);
+/// # Ok::<(), ptp_proved::Refusal>(())
+/// ```
+#[derive(Clone, Debug)]
+pub struct Chars<'a> {
+    units: core::char::DecodeUtf16<Items<'a, u16>>,
+}
+
+impl Iterator for Chars<'_> {
+    type Item = char;
+
+    fn next(&mut self) -> Option<char> {
+        Some(self.units.next()?.unwrap_or(char::REPLACEMENT_CHARACTER))
+    }
+
+    fn size_hint(&self) -> (usize, Option<usize>) {
+        self.units.size_hint()
+    }
+}
+
+// The units' own iterator is.
+impl core::iter::FusedIterator for Chars<'_> {}
+
+#[cfg(feature = "alloc")]
+impl From<PtpString<'_>> for alloc::string::String {
+    fn from(text: PtpString<'_>) -> Self {
+        text.chars().collect()
     }
 }
 

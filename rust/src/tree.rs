@@ -5,11 +5,24 @@ use crate::refusal::Refusal;
 /// One to 1,024 objects, an entry an object: handles, parents' places, and names end to end with the end of each.
 ///
 /// Place 0 is the root, with parent entry 0; every other parent entry is smaller than its own place. Each name is wholly one string.
-#[derive(Clone, Copy, Debug)]
+///
+/// ```
+/// use ptp_proved::ObjectTable;
+/// // a root without a name, in it A, in that B
+/// let table = ObjectTable { handles: &[1, 2, 3], parents: &[0, 0, 1], ends: &[1, 6, 11], names: b"\0\x02A\0\0\0\x02B\0\0\0" };
+/// assert_eq!(table.path(2, &mut [0; 16])?, "A/B");
+/// assert_eq!(table.walk(&mut [0; 3])?, [0, 1, 2]);
+/// # Ok::<(), ptp_proved::Refusal>(())
+/// ```
+#[derive(Clone, Copy, Debug, PartialEq, Eq, Hash)]
 pub struct ObjectTable<'a> {
+    /// each object's handle
     pub handles: &'a [u32],
+    /// the place of each object's parent
     pub parents: &'a [u16],
+    /// where each name ends in `names`
     pub ends: &'a [u32],
+    /// the names, end to end, each a string
     pub names: &'a [u8],
 }
 
@@ -35,7 +48,16 @@ impl ObjectTable<'_> {
 }
 
 /// The paths of an object table, in walk order.
-#[derive(Clone, Copy, Debug, PartialEq, Eq)]
+///
+/// ```
+/// use ptp_proved::ObjectTable;
+/// let table = ObjectTable { handles: &[1, 2], parents: &[0, 0], ends: &[1, 6], names: b"\0\x02A\0\0\0" };
+/// let (mut out, mut ends) = ([0; 16], [0; 2]);
+/// let paths = table.paths(&mut out, &mut ends)?;
+/// assert_eq!((paths.len(), paths.get(1), paths.get(2)), (2, Some("A"), None));
+/// # Ok::<(), ptp_proved::Refusal>(())
+/// ```
+#[derive(Clone, Copy, Debug, PartialEq, Eq, Hash)]
 pub struct Paths<'o> {
     bytes: &'o [u8],
     ends: &'o [u32],
@@ -47,6 +69,7 @@ impl<'o> Paths<'o> {
         self.ends.len()
     }
 
+    /// Whether there is none.
     pub fn is_empty(&self) -> bool {
         self.ends.is_empty()
     }
@@ -68,7 +91,61 @@ impl<'o> Paths<'o> {
         Some(core::str::from_utf8(&self.bytes[start..end]).expect("a path is UTF-8"))
     }
 
-    pub fn iter(self) -> impl ExactSizeIterator<Item = &'o str> + 'o {
-        (0..self.len()).map(move |n| self.get(n).expect("a path for each object"))
+    /// All of them, in order; one step costs one path.
+    pub fn iter(&self) -> EachPath<'o> {
+        EachPath { paths: *self, next: 0 }
+    }
+}
+
+/// A table's paths, one after the other.
+///
+/// ```
+/// use ptp_proved::ObjectTable;
+/// let table = ObjectTable { handles: &[7, 8], parents: &[0, 0], ends: &[1, 6], names: b"\0\x02A\0\0\0" };
+/// let (mut out, mut ends) = ([0; 16], [0; 2]);
+/// let mut each = table.paths(&mut out, &mut ends)?.iter();
+/// assert_eq!((each.len(), each.next(), each.next(), each.next()), (2, Some(""), Some("A"), None));
+/// # Ok::<(), ptp_proved::Refusal>(())
+/// ```
+#[derive(Clone, Debug)]
+pub struct EachPath<'o> {
+    paths: Paths<'o>,
+    next: usize,
+}
+
+impl<'o> Iterator for EachPath<'o> {
+    type Item = &'o str;
+
+    fn next(&mut self) -> Option<&'o str> {
+        let path = self.paths.get(self.next)?;
+        self.next += 1;
+        Some(path)
+    }
+
+    fn size_hint(&self) -> (usize, Option<usize>) {
+        let left = self.paths.len() - self.next;
+        (left, Some(left))
+    }
+}
+
+impl ExactSizeIterator for EachPath<'_> {}
+
+impl core::iter::FusedIterator for EachPath<'_> {}
+
+impl<'o> IntoIterator for Paths<'o> {
+    type Item = &'o str;
+    type IntoIter = EachPath<'o>;
+
+    fn into_iter(self) -> EachPath<'o> {
+        self.iter()
+    }
+}
+
+impl<'o> IntoIterator for &Paths<'o> {
+    type Item = &'o str;
+    type IntoIter = EachPath<'o>;
+
+    fn into_iter(self) -> EachPath<'o> {
+        self.iter()
     }
 }

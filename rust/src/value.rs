@@ -6,30 +6,58 @@ use crate::text::PtpString;
 use core::fmt;
 
 /// What a value says. A value of 128 bits is the pair (high, low), for the signed type too.
+///
+/// ```
+/// use ptp_proved::{PtpDataType, PtpReader};
+/// assert_eq!(PtpReader::new(&[0xFE, 0xFF]).read_type(3)?, PtpDataType::INT16(-2));
+/// assert_eq!(PtpDataType::INT16(-2).to_string(), "-2");
+/// # Ok::<(), ptp_proved::Refusal>(())
+/// ```
 #[derive(Clone, Copy, Debug, PartialEq, Eq, Hash)]
 pub enum PtpDataType<'a> {
     /// every type code that is none of the others, 0 too; it takes no bytes
     UNDEF,
+    /// an integer of 8 bits, signed
     INT8(i8),
+    /// an integer of 8 bits
     UINT8(u8),
+    /// an integer of 16 bits, signed
     INT16(i16),
+    /// an integer of 16 bits
     UINT16(u16),
+    /// an integer of 32 bits, signed
     INT32(i32),
+    /// an integer of 32 bits
     UINT32(u32),
+    /// an integer of 64 bits, signed
     INT64(i64),
+    /// an integer of 64 bits
     UINT64(u64),
+    /// an integer of 128 bits, signed
     INT128((u64, u64)),
+    /// an integer of 128 bits
     UINT128((u64, u64)),
+    /// an array of integers of 8 bits, signed
     AINT8(PtpArray<'a, i8>),
+    /// an array of integers of 8 bits
     AUINT8(PtpArray<'a, u8>),
+    /// an array of integers of 16 bits, signed
     AINT16(PtpArray<'a, i16>),
+    /// an array of integers of 16 bits
     AUINT16(PtpArray<'a, u16>),
+    /// an array of integers of 32 bits, signed
     AINT32(PtpArray<'a, i32>),
+    /// an array of integers of 32 bits
     AUINT32(PtpArray<'a, u32>),
+    /// an array of integers of 64 bits, signed
     AINT64(PtpArray<'a, i64>),
+    /// an array of integers of 64 bits
     AUINT64(PtpArray<'a, u64>),
+    /// an array of integers of 128 bits, signed
     AINT128(PtpArray<'a, (u64, u64)>),
+    /// an array of integers of 128 bits
     AUINT128(PtpArray<'a, (u64, u64)>),
+    /// a string
     STR(PtpString<'a>),
 }
 
@@ -65,6 +93,13 @@ impl PtpDataType<'_> {
 }
 
 /// A value as it lies in the caller's bytes, with its type code. Two are equal where they say the same, however they are spelled.
+///
+/// ```
+/// let (value, next) = ptp_proved::PtpValue::read(4, &[0, 2, 1], 1)?;
+/// assert_eq!((value.data_type(), value.bytes(), next), (4, &[2, 1][..], 3));
+/// assert_eq!(value.to_string(), "258");
+/// # Ok::<(), ptp_proved::Refusal>(())
+/// ```
 #[derive(Clone, Copy)]
 pub struct PtpValue<'a> {
     code: u16,

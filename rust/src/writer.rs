@@ -81,6 +81,38 @@ impl PtpDataType<'_> {
     }
 }
 
+#[cfg(feature = "alloc")]
+impl PtpDataType<'_> {
+    /// Its bytes, those of [`encode`](Self::encode), allocated.
+    ///
+    /// ```
+    /// assert_eq!(ptp_proved::PtpDataType::UINT16(258).to_vec(), [2, 1]);
+    /// ```
+    pub fn to_vec(&self) -> alloc::vec::Vec<u8> {
+        let mut out = alloc::vec![0; self.room()];
+        let count = self.encode(&mut out).expect("what was read can be written, and this is room for it").len();
+        out.truncate(count);
+        out
+    }
+
+    // Enough for it: an array's count and items; else a string's 255 units, which no integer is longer than.
+    fn room(&self) -> usize {
+        use PtpDataType::*;
+        4 + match *self {
+            AINT8(a) => a.bytes().len(),
+            AUINT8(a) => a.bytes().len(),
+            AINT16(a) => a.bytes().len(),
+            AUINT16(a) => a.bytes().len(),
+            AINT32(a) => a.bytes().len(),
+            AUINT32(a) => a.bytes().len(),
+            AINT64(a) => a.bytes().len(),
+            AUINT64(a) => a.bytes().len(),
+            AINT128(a) | AUINT128(a) => a.bytes().len(),
+            _ => 2 * 255,
+        }
+    }
+}
+
 fn items<T>(code: u16, array: PtpArray<'_, T>, out: &mut [u8]) -> Result<usize, Refusal> {
     archive::write_array(code, array.bytes(), out)
 }

@@ -1,6 +1,7 @@
 //! What is lent: a refusal leaves it as it was, the exact need suffices, and nothing past what was given is touched.
 use ptp_proved::{
-    mend_recording, newer_value, tidy_property, Newer, ObjectTable, PropLayout, PtpDataType, PtpFormData, PtpPropInfo, Refusal, Session,
+    item, mend_recording, newer_value, read_container, tidy_property, unit, utf8, utf8_len, Newer, ObjectTable, PropLayout,
+    PtpDataType, PtpFormData, PtpPropInfo, PtpReader, PtpValues, Refusal, Session,
 };
 
 const KEPT: u8 = 0xA5;
@@ -144,10 +145,17 @@ fn refused_table_writes_nothing() {
     }
 }
 
+fn list_of(info: PtpPropInfo<'_>) -> PtpValues<'_> {
+    match info.Form {
+        PtpFormData::Enumeration { array } => array,
+        other => panic!("{:?} is no list", other),
+    }
+}
+
 #[test]
 fn an_index_past_the_list_is_refused() {
     let (info, taken) = PtpPropInfo::decode(PropLayout::Crate, &LIST).unwrap();
-    let PtpFormData::Enumeration { array } = info.Form else { panic!("a list is a list") };
+    let array = list_of(info);
     assert_eq!((taken, array.len()), (19, 2));
     assert_eq!(array.nth(1).unwrap().bytes(), b"\x02A\0\0\0");
     for n in [2, 3, usize::MAX] {
@@ -161,7 +169,7 @@ fn an_index_past_the_list_is_refused() {
 #[test]
 fn a_list_of_values_without_bytes_has_them_all() {
     let (info, taken) = PtpPropInfo::decode(PropLayout::Crate, b"\x01\x50\0\0\0\0\x02\xFF\xFF").unwrap();
-    let PtpFormData::Enumeration { array } = info.Form else { panic!("a list is a list") };
+    let array = list_of(info);
     assert_eq!(
         (taken, array.len(), array.iter().map(|value| value.view()).filter(|view| *view == PtpDataType::UNDEF).count()),
         (9, 65535, 65535)
@@ -238,4 +246,20 @@ fn a_sound_recording_is_mended_to_itself() {
     let mut out = [KEPT; 7];
     let mended = mend_recording(&DAMAGED[1..8], &mut out, &mut [], &mut []).unwrap();
     assert_eq!((mended.bytes, mended.dropped().len()), (&DAMAGED[1..8], 0));
+}
+
+#[test]
+fn a_place_past_the_end_is_told_as_it_was_asked() {
+    for at in [3, 1 << 54, 1 << 55, 1 << 63, usize::MAX - 1, usize::MAX] {
+        let s = [2, 65, 0];
+        let end = Refusal::END { at };
+        assert_eq!(PtpReader::at(&s, at).read_ptp_u8(), Err(end));
+        assert_eq!(PtpReader::at(&s, at).read_ptp_str(), Err(end));
+        assert_eq!((unit(&s, at, 0), utf8_len(&s, at)), (Err(end), Err(end)));
+        assert_eq!((item(&s, at, 0x4002, 0), item(&s, at, 2, 0)), (Err(end), Err(Refusal::PLACE)));
+        assert_eq!((utf8(&s, at, &mut [0; 8]), read_container(&s, at)), (Err(end), Err(end)));
+        // a value of no bytes stands anywhere
+        let mut reader = PtpReader::at(&s, at);
+        assert_eq!((reader.read_type(0), reader.place()), (Ok(PtpDataType::UNDEF), at));
+    }
 }

@@ -22,7 +22,10 @@ fn answers_are_those_of_the_replay() {
     for (question, expected) in questions.iter().zip(&answers) {
         let mut words = question.split(' ');
         let kind = words.next().unwrap_or("");
-        let Some(count) = compared.get_mut(kind) else { continue };
+        let count = match compared.get_mut(kind) {
+            Some(count) => count,
+            None => continue,
+        };
         let words: Vec<&str> = words.collect();
         let answer = panic::catch_unwind(|| ask::answer(kind, &words)).unwrap_or(Some("a panic, which is told above".into()));
         *count += usize::from(answer.is_some());

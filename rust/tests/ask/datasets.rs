@@ -1,7 +1,8 @@
 //! Datasets, and what the panel asks of a property.
 use super::{show, words};
 use ptp_proved::{
-    newer_value, storage_info, tidy_property, Newer, PropLayout, PtpDeviceInfo, PtpFormData, PtpObjectInfo, PtpPropInfo, PtpStorageInfo,
+    newer_value, storage_info, tidy_property, Newer, PropLayout, PtpDeviceInfo, PtpFormData, PtpObjectInfo, PtpPropInfo,
+    PtpStorageInfo,
 };
 
 pub fn device(s: &str) -> Option<String> {

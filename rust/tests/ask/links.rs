@@ -1,6 +1,8 @@
 //! Commands, answers, object tables and records.
 use super::{datasets, show, words};
-use ptp_proved::{copy_recording, find_answer, mend_recording, read_record, Answer, Made, ObjectTable, PtpRecord, Refusal, Session};
+use ptp_proved::{
+    copy_recording, find_answer, mend_recording, read_record, Answer, Made, ObjectTable, PtpRecord, Refusal, Session,
+};
 
 // The session that was asked, at its state before; and what it made: the number sent, and how many bytes.
 fn made(state: u32, session: Session, made: Result<(u32, usize), Refusal>, out: &[u8]) -> String {

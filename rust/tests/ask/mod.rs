@@ -73,7 +73,9 @@ pub fn answer(kind: &str, words: &[&str]) -> Option<String> {
         ("newer", [layout, description, payload]) => datasets::newer(layout, description, payload),
         ("command", [state, code, params, room]) => links::command(state, code, params, None, room),
         ("command-data", [state, code, params, s, room]) => links::command(state, code, params, Some(s), room),
-        ("panel", [layout, state, description, code, value, room]) => links::set_value(layout, state, description, code, value, room),
+        ("panel", [layout, state, description, code, value, room]) => {
+            links::set_value(layout, state, description, code, value, room)
+        }
         ("call", [name, state, storage, filter, handle, room]) => links::call(name, state, [storage, filter, handle], room),
         ("answer", [number, s]) => links::answer(number, s),
         ("walk", [handles, parents, ends, names]) => links::walk([handles, parents, ends, names]),

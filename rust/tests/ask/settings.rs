@@ -57,7 +57,10 @@ pub fn find(which: &str, row: &str, vendor: &str, property: &str, serial: &str) 
         Ok(read) => read,
         Err(why) => return Some(show::refusal(why)),
     };
-    let Some(kept) = read.find(vendor, property, &serial) else { return Some("none".into()) };
+    let kept = match read.find(vendor, property, &serial) {
+        Some(kept) => kept,
+        None => return Some("none".into()),
+    };
     let value = kept.value;
     let start = show::start(value.bytes(), &row);
     Some(format!("ok {} {} {} {start} {}", kind(kept.is_own), value.data_type(), show::value(value), value.bytes().len()))

@@ -31,11 +31,14 @@ pub fn numbers<T: Display>(numbers: impl IntoIterator<Item = T>) -> String {
 }
 
 /// Equal neighbours as one, with their count.
-pub fn runs(list: &[u64]) -> String {
-    numbers(list.chunk_by(|one, other| one == other).map(|run| match run.len() {
-        1 => run[0].to_string(),
-        times => format!("{}*{times}", run[0]),
-    }))
+pub fn runs(mut list: &[u64]) -> String {
+    let mut words = vec![];
+    while let Some(first) = list.first() {
+        let times = list.iter().take_while(|each| *each == first).count();
+        words.push(if times == 1 { first.to_string() } else { format!("{first}*{times}") });
+        list = &list[times..];
+    }
+    numbers(words)
 }
 
 fn joined<T: Display>(items: impl IntoIterator<Item = T>, between: &str) -> String {
