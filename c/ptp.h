@@ -48,7 +48,8 @@ enum ptp_refusal {
     PTP_COUNT = 10,   /* too many parameters, or a payload that is too long */
     PTP_TABLE = 11,   /* the object table breaks its rule */
     PTP_PLACE = 12,   /* an index that does not exist */
-    PTP_RECORD = 13,  /* a record's length is below 6, or its kind not 1 to 3; a setting's length is below 6, it is untidy, or its key stood before */
+    PTP_RECORD = 13,  /* a record's length is below 6, or its kind not 1 to 3, of one to be written not 1 or 2; a setting's length is
+                         below 6, it is untidy, or its key stood before */
     PTP_LONG = 14,    /* a record's body is over 65,000 bytes */
     PTP_TYPE = 15,    /* another type than the description's, one that is none, or a range of anything but integers of 8 to 64 bits */
     PTP_VALUE = 16,   /* the description's form does not allow the value */

@@ -45,7 +45,7 @@ pub enum Refusal {
     TABLE,
     /// an index that does not exist
     PLACE,
-    /// a record's length is below 6, or its kind not 1 to 3; a setting's length is below 6, it is untidy, or its key stood before
+    /// a record's length is below 6, or its kind not 1 to 3, of one to be written not 1 or 2; a setting's length is below 6, it is untidy, or its key stood before
     RECORD,
     /// a record's body is over 65,000 bytes
     LONG,
