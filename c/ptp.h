@@ -18,6 +18,9 @@
  *
  * A property's description has one of two layouts, which the caller names by `book`: true for PIMA 15740's, which has no IsEnable byte,
  * false for the one with that byte behind GetSet. There is no default, and nothing guesses: some bytes fit both.
+ *
+ * What is proved: every function that is declared here stands in the archive, and is proved. Plain C are the three that are defined here,
+ * arithmetic on one number of an answer each: ptp_refusal_number, ptp_refusal_place and ptp_string_place.
  */
 #ifndef PTP_H
 #define PTP_H
@@ -57,19 +60,19 @@ enum ptp_refusal {
     PTP_FULL = 18     /* 256 settings with other keys are held */
 };
 
-/* Of an answer below 0: which refusal it is, one of the numbers above. */
+/* Of an answer below 0: which refusal it is, one of the numbers above. Plain C. */
 static inline enum ptp_refusal ptp_refusal_number(int64_t answer)
 {
     return (enum ptp_refusal)((0 - (uint64_t)answer) % 256);
 }
 
-/* And where the field that failed begins, for END and TEXT. */
+/* And where the field that failed begins, for END and TEXT. Plain C. */
 static inline uint64_t ptp_refusal_place(int64_t answer)
 {
     return (0 - (uint64_t)answer) / 256;
 }
 
-/* Of the START of a string's units: the place of the string. */
+/* Of the START of a string's units: the place of the string. Plain C. */
 static inline size_t ptp_string_place(uint64_t start)
 {
     return (size_t)start - 1;
