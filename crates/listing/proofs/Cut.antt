@@ -10,6 +10,7 @@ use lib.Dec.{ltb}
 use lib.ListN.{length}
 use Rattle.layout.specs.Answer.{got, pick}
 use Rattle.layout.proofs.laws.Accepted.{accepted}
+use Rattle.layout.proofs.laws.Reading.{pick-alike}
 use Rattle.layout.proofs.laws.Tidied.{zero-one}
 use Rattle.recording.specs.Content.{Record}
 use Rattle.recording.specs.Record.{limit, recordOf}
@@ -37,8 +38,4 @@ waits-short s e = go (ltb 0 (length s)) refl e
 -- a whole record waits for nothing
 pub whole-ready : (last : Bool) (s : List ℕ) {x : Record} {n : ℕ} → got x n ≡ recordOf s → waits last s ≡ false
 unfolding waits
-whole-ready last s e = let p = accepted _ (record-stands s) e in rw (lt-ltb 0 (length s) (omega (arith, p .till, p .within)), whole-uncut s e) (go last)
-  where
-    go : (b : Bool) → pick b false false ≡ false
-    go true = refl
-    go false = refl
+whole-ready last s e = let p = accepted _ (record-stands s) e in rw (lt-ltb 0 (length s) (omega (arith, p .till, p .within)), whole-uncut s e) (pick-alike last false)

@@ -6,13 +6,10 @@ use Prim.Native.Nat.{ℕ, suc, _+_, _-_, _≤_, _<_}
 use native.Mathlib.Nat.{not-suc-le-zero, le-of-suc-le-suc}
 use native.Mathlib.Omega.{arith}
 use lib.ListN.{length, take, drop, set, length-drop, take-append-drop}
-use lib.Seq.{sets, sets-eq, set-set, set-comm, take-add, take-all, take-length, drop-length, drop-drop, length-take-le}
+use lib.Seq.{sets, sets-eq, set-set, set-comm, take-add, take-length, drop-length, drop-drop, length-take-le}
 use Rattle.layout.specs.Written.{put, Put}
+use Rattle.layout.proofs.laws.Words.{part-from}
 use Rattle.layout.proofs.laws.Writing.{then}
-
--- what is behind a place, as a part that is lent
-pub behind : (l : List ℕ) (r : ℕ) → take (length l - r) (drop r l) ≡ drop r l
-behind l r = take-all (length l - r) (drop r l) (omega (arith, length-drop r l))
 
 nothing-behind : (l : List ℕ) (r : ℕ) → r ≤ length l → drop (length l - r) (drop r l) ≡ []
 nothing-behind l r h = ap (λ n. drop n (drop r l)) (sym (length-drop r l)) ∙ drop-length (drop r l)
@@ -25,7 +22,7 @@ unfolding put
 copied out t at {ys} {n} h e f = record {
   bytes =
       ap (λ z. take at out ++ z)
-      (rw (f, nothing-behind out at (omega arith), append-nil, take-length t, behind out at, drop-drop (length t) at out))
+      (rw (f, nothing-behind out at (omega arith), append-nil, take-length t, part-from out at, drop-drop (length t) at out))
       ∙ sym (append-assoc (take at out) t (drop (at + length t) out))
       ∙ sym (sets-eq t out at h);
   place = omega arith;

@@ -13,8 +13,8 @@ use lib.Dec.{leb}
 use lib.ListN.{length, take, drop, set, getD, length-drop}
 use lib.Seq.{take-all, length-take-le, getD-append-add, getD-drop, paste-suc}
 use Rattle.layout.specs.Answer.{pick}
+use Rattle.layout.proofs.laws.Words.{part-from}
 use Rattle.listing.specs.Turn.{unlisted, Kept}
-use Rattle.listing.proofs.Windows.{part-from}
 
 -- ── bounds that are cut to the window ──
 

@@ -10,13 +10,14 @@ use mathlib.Core.Option.{some}
 use Prim.Native.Nat.{ℕ, zero, suc, _+_, _*_, _-_, _%_, _^_, _≤_, _<_}
 use native.Mathlib.Nat.{not-suc-le-zero}
 use native.Mathlib.Omega.{arith}
-use borrow.Author.Tests.{leb-true, leb-false, ltb-true, ltb-false, eqb-true, eqb-false}
-use lib.Dec.{leb, ltb, eqb, lit≤}
-use lib.ListN.{length, take, drop, length-append, length-drop, take-append-drop}
-use lib.Seq.{drop-append-le, drop-drop, drop-at, take-add, take-all, take-append-seam, length-take-le}
+use borrow.Author.Tests.{ltb-true, ltb-false, eqb-true, eqb-false}
+use lib.Dec.{ltb, eqb, lit≤}
+use lib.ListN.{length, take, drop, length-append, length-drop, take-append-drop, length-take}
+use lib.Seq.{drop-append-le, drop-drop, drop-at, take-add, take-append-seam, length-take-le}
 use Rattle.layout.specs.Answer.{Answer, got, refused, pick}
 use Rattle.layout.proofs.laws.Accepted.{Accepts}
 use Rattle.layout.proofs.laws.Tidied.{zero-one}
+use Rattle.layout.proofs.laws.Words.{no-bytes}
 use Rattle.recording.specs.Content.{Record}
 use Rattle.recording.specs.Record.{recordOf}
 use Rattle.recording.proofs.laws.Rowed.{Stands, record-stands}
@@ -35,21 +36,10 @@ use Rattle.listing.proofs.Whole.{Tells, window-tells, remaining-none}
 
 -- ── lists ──
 
-none-left : (l : List ℕ) → length l ≤ 0 → l ≡ []
-none-left [] h = refl
-none-left (x ∷ l) h = absurd (not-suc-le-zero h)
-
-length-taken : (n : ℕ) (l : List ℕ) → (length (take n l) ≤ n) × (length (take n l) ≤ length l)
-length-taken n l = go (leb n (length l)) refl
-  where
-    go : (b : Bool) → leb n (length l) ≡ b → (length (take n l) ≤ n) × (length (take n l) ≤ length l)
-    go true e = let k = length-take-le n l (leb-true n (length l) e) in (omega arith, omega (arith, leb-true n (length l) e))
-    go false e = let k = ap length (take-all n l (omega (arith, leb-false n (length l) e))) in (omega (arith, leb-false n (length l) e), omega arith)
-
 -- a part without its first bytes
 drop-part : (u n : ℕ) (l : List ℕ) → u ≤ length (take n l) → drop u (take n l) ≡ take (n - u) (drop u l)
 drop-part u n l h =
-    let k = length-taken n l in
+    let k = length-take n l in
     let e : n ≡ u + (n - u) = omega arith in
     ap (λ m. drop u (take m l)) e ∙ ap (drop u) (take-add u (n - u) l) ∙ drop-at (take u l) (take (n - u) (drop u l)) u (length-take-le u l (omega arith))
 
@@ -65,7 +55,7 @@ reads room h [] = record { all = refl; fits = omega arith; end = λ _. omega ari
 reads room h ([] ∷ ps) = let r = reads room h ps in record { all = r .all; fits = r .fits; end = r .end }
 reads room h ((b ∷ bs) ∷ ps) = record {
   all = sym (append-assoc (take room (b ∷ bs)) (drop room (b ∷ bs)) (whole ps)) ∙ ap (λ l. l ++ whole ps) (take-append-drop room (b ∷ bs));
-  fits = length-taken room (b ∷ bs) .0;
+  fits = omega (arith, length-take room (b ∷ bs));
   end = λ e. absurd (front room h e);
 }
   where
@@ -192,7 +182,7 @@ module _ (n : ℕ) (later : Prints n) (window : List ℕ) (from held : ℕ) (end
   all-printed = printed (suc n) window (at-lines from held ended place records) ps ≡ some (remaining place records (unlisted window from held ++ whole ps))
 
   tells : Tells place records (unlisted window from held ++ whole ps) (listed window from held ended place records)
-  tells = window-tells ended (whole ps) (λ e. none-left (whole ps) (last e)) size (unlisted window from held) place records k l
+  tells = window-tells ended (whole ps) (λ e. no-bytes (whole ps) (last e)) size (unlisted window from held) place records k l
 
   after-refusal : listed window from held ended place records .stopped ≡ true → all-printed
   after-refusal e =
@@ -218,7 +208,7 @@ module _ (n : ℕ) (later : Prints n) (window : List ℕ) (from held : ℕ) (end
   after-end e f g =
       let h = unlisted window from held in
       let waiting = no-line e f in
-      let gone : h ++ whole ps ≡ [] = none-left (h ++ whole ps) (omega (arith, length-append h (whole ps), last g, waits-last h (rw g at waiting))) in
+      let gone : h ++ whole ps ≡ [] = no-bytes (h ++ whole ps) (omega (arith, length-append h (whole ps), last g, waits-last h (rw g at waiting))) in
       let nothing = window-waits ended size h place records waiting in
       again n window _ ps (turn-end window from held ended place records e f g) refl
       ∙ rw (nothing, closed n window from held ended (record { place = place; records = records }) ps (omega arith), gone) (ap some (sym (remaining-none place records)))

@@ -8,11 +8,12 @@ use native.Mathlib.Nat.{zero-add}
 use native.Mathlib.Omega.{arith}
 use borrow.Author.Tests.{le-leb, lt-leb, le-ltb, ltb-true}
 use lib.Dec.{leb, ltb}
-use lib.ListN.{length, take, drop, length-drop}
-use lib.Seq.{drop-drop, take-length}
+use lib.ListN.{length, drop, length-drop}
+use lib.Seq.{drop-drop}
 use Rattle.layout.specs.Answer.{Answer, Told, got, refused, pick}
 use Rattle.layout.specs.Written.{Put}
 use Rattle.layout.proofs.laws.Accepted.{Accepts, accepts-all}
+use Rattle.layout.proofs.laws.Reading.{pick-alike}
 use Rattle.layout.proofs.laws.Tidied.{zero-one}
 use Rattle.layout.proofs.laws.Writing.{Owes, start, part, end, long, put-front}
 use Rattle.recording.specs.Content.{Record}
@@ -41,15 +42,11 @@ has-bytes last s e = go (ltb 0 (length s)) refl e
     go true h e = ltb-true 0 (length s) h
     go false h e = zero-one (cc)
 
-pick-same : {A : Type 0} (b : Bool) (x : A) → pick b x x ≡ x
-pick-same true x = refl
-pick-same false x = refl
-
 module _ (last : Bool) where
   none-from : (f room : ℕ) (s : List ℕ) (p c : ℕ) → length s ≤ 0 → windowFrom f last room s p c ≡ rests p c
   unfolding windowFrom
   none-from zero room s p c h = refl
-  none-from (suc f) room s p c h = rw (waits-empty last s h) (pick-same (leb lineRoom room) (rests p c))
+  none-from (suc f) room s p c h = rw (waits-empty last s h) (pick-alike (leb lineRoom room) (rests p c))
 
   turn-same :
       (f g room : ℕ) (s : List ℕ) (p c : ℕ) →
@@ -60,16 +57,13 @@ module _ (last : Bool) where
       ap (λ w. pick (leb lineRoom room) (pick (waits last s) (rests p c) w) (rests p c))
       (lined-same p c (recordOf s) (λ line n. windowFrom f last (room - length line) (drop n s) ((p + n) % 2 ^ 64) ((c + 1) % 2 ^ 64)) (λ line n. windowFrom g last (room - length line) (drop n s) ((p + n) % 2 ^ 64) ((c + 1) % 2 ^ 64)) e)
 
-  less : (s : List ℕ) (n b : ℕ) → 0 < n → length s ≤ suc b → length (drop n s) ≤ b
-  less s n b e h = rw (length-drop n s) (omega arith)
-
   enough : (f g room : ℕ) (s : List ℕ) (p c : ℕ) → length s ≤ f → length s ≤ g → windowFrom f last room s p c ≡ windowFrom g last room s p c
   enough zero g room s p c h k = none-from zero room s p c h ∙ sym (none-from g room s p c h)
   enough (suc f) zero room s p c h k = none-from (suc f) room s p c k ∙ sym (none-from zero room s p c k)
   enough (suc f) (suc g) room s p c h k =
       turn-same f g room s p c
       (accepts-all (Stands s) _ (recordOf s) (record-stands s) λ x n q.
-      enough f g (room - length (recordLine p x)) (drop n s) ((p + n) % 2 ^ 64) ((c + 1) % 2 ^ 64) (less s n f (omega (arith, q .till)) h) (less s n g (omega (arith, q .till)) k))
+      enough f g (room - length (recordLine p x)) (drop n s) ((p + n) % 2 ^ 64) ((c + 1) % 2 ^ 64) (omega (arith, length-drop n s, q .till)) (omega (arith, length-drop n s, q .till)))
 
   used-from : (f room : ℕ) (s : List ℕ) (p c : ℕ) → windowFrom f last room s p c .used ≤ length s
   unfolding windowFrom
@@ -97,7 +91,7 @@ module _ (last : Bool) where
 
   pub window-waits : (room : ℕ) (s : List ℕ) (p c : ℕ) → waits last s ≡ true → windowOf last room s p c ≡ rests p c
   unfolding windowOf windowFrom
-  window-waits room s p c e = enough (length s) (suc (length s)) room s p c (omega arith) (omega arith) ∙ rw e (pick-same (leb lineRoom room) (rests p c))
+  window-waits room s p c e = enough (length s) (suc (length s)) room s p c (omega arith) (omega arith) ∙ rw e (pick-alike (leb lineRoom room) (rests p c))
 
   pub window-step :
       (room : ℕ) (s : List ℕ) (p c : ℕ) → lineRoom ≤ room → waits last s ≡ false →
@@ -126,10 +120,6 @@ pub begins : (last : Bool) (s out : List ℕ) (p c : ℕ) → Goes (windowOf las
 begins last s out p c =
     let e : length out - 0 ≡ length out = omega arith in
     rw e (record { owes = start; uses = zero-add (windowOf last (length out) s p c .used); places = refl; counts = refl; stops = refl; fits = omega arith })
-
--- the part of a slice from a place on
-pub part-from : (s : List ℕ) (n : ℕ) → take (length s - n) (drop n s) ≡ drop n s
-part-from s n = rw (← length-drop n s) (take-length (drop n s))
 
 goes-on :
     {w rest next : Windowed} {out₀ out out′ : List ℕ} {used written written′ : ℕ} (line : List ℕ) (n : ℕ) → rest ≡ after-line line n next → Goes w rest out₀ out used written →

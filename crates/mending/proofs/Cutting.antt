@@ -34,9 +34,6 @@ unfolding cutFrom
 cut-from-none zero place s h = refl
 cut-from-none (suc f) place s h = rw (le-ltb 0 (length s) h)
 
-less : (s : List ℕ) (n b : ℕ) → 0 < n → length s ≤ suc b → length (drop n s) ≤ b
-less s n b e h = rw (length-drop n s) (omega arith)
-
 enough : (f g place : ℕ) (s : List ℕ) → length s ≤ f → length s ≤ g → cutFrom f place s ≡ cutFrom g place s
 unfolding cutFrom
 enough zero g place s h k = sym (cut-from-none g place s h)
@@ -44,8 +41,8 @@ enough (suc f) zero place s h k = cut-from-none (suc f) place s k
 enough (suc f) (suc g) place s h k =
     ap (λ ps. pick (ltb 0 (length s)) ps [])
     (pieced-same place (recordOf s) (λ n. cutFrom f (place + n) (drop n s)) (λ n. cutFrom g (place + n) (drop n s))
-    (accepts-all (Stands s) _ (recordOf s) (record-stands s) λ x n p. enough f g (place + n) (drop n s) (less s n f (omega (arith, p .till)) h) (less s n g (omega (arith, p .till)) k))
-    (enough f g (place + 1) (drop 1 s) (less s 1 f (omega arith) h) (less s 1 g (omega arith) k)))
+    (accepts-all (Stands s) _ (recordOf s) (record-stands s) λ x n p. enough f g (place + n) (drop n s) (omega (arith, length-drop n s, p .till)) (omega (arith, length-drop n s, p .till)))
+    (enough f g (place + 1) (drop 1 s) (omega (arith, length-drop 1 s)) (omega (arith, length-drop 1 s))))
 
 pub cut-none : (place : ℕ) (s : List ℕ) → length s ≤ 0 → cutAt place s ≡ []
 unfolding cutAt
@@ -159,8 +156,8 @@ module _ (P : ℕ → List ℕ → Type 0) (none : (place : ℕ) (s : List ℕ) 
     where
       go : (b : Bool) → ltb 0 (length s) ≡ b → (x : Answer Record) → x ≡ recordOf s → Accepts (Stands s) x → ((n : ℕ) → length (drop n s) ≤ f → P (place + n) (drop n s)) → P place s
       go false e x r p on = none place s (ltb-false 0 (length s) e)
-      go true e (got x n) r p on = one-kept place s x n (ltb-true 0 (length s) e) r p (on n (less s n f (omega (arith, p .till)) h))
-      go true e (refused u) r p on = one-dropped place s u (ltb-true 0 (length s) e) r (on 1 (less s 1 f (omega arith) h))
+      go true e (got x n) r p on = one-kept place s x n (ltb-true 0 (length s) e) r p (on n (omega (arith, length-drop n s, p .till)))
+      go true e (refused u) r p on = one-dropped place s u (ltb-true 0 (length s) e) r (on 1 (omega (arith, length-drop 1 s)))
 
   pub by-pieces : (place : ℕ) (s : List ℕ) → P place s
   by-pieces place s = by-pieces-from (length s) place s (omega arith)

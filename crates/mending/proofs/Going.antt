@@ -12,6 +12,7 @@ use lib.ListN.{length, take, drop, length-drop, length-map}
 use lib.Seq.{length-take-le}
 use Rattle.layout.specs.Answer.{pick}
 use Rattle.layout.specs.Written.{Put, roomed}
+use Rattle.layout.proofs.laws.Reading.{pick-alike}
 use Rattle.layout.proofs.laws.Writing.{Owes, start, part, end, roomy, long, nothing, put-front}
 use Rattle.wire.specs.declared.Part.{Part}
 use Rattle.mending.specs.declared.window.Tally.{Tally}
@@ -58,11 +59,7 @@ pub closes-off : (all : Bool) (slots : ℕ) (t : Tally) → all ≡ false → cl
 closes-off all slots t e = rw e
 
 pub closes-not : (all : Bool) (slots : ℕ) (t : Tally) → leb (length (opened t)) slots ≡ false → closes all slots t ≡ rests t
-closes-not all slots t e = rw e (go all)
-  where
-    go : (b : Bool) → pick b (rests t) (rests t) ≡ rests t
-    go true = refl
-    go false = refl
+closes-not all slots t e = rw e (pick-alike all (rests t))
 
 abbrev telling : Tally → Windowed
 telling t = record { text = []; told = opened t; used = 0; tally = closed t }

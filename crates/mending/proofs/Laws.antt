@@ -6,16 +6,15 @@ use mathlib.Core.Path.{_≡_, refl, sym, ap, subst, _∙_}
 use mathlib.Core.Bool.{Bool, true, false}
 use mathlib.Core.List.{List, [], _∷_, _++_, map, append-nil}
 use Prim.Native.Nat.{ℕ, suc, _+_, _-_, _≤_, _<_}
-use native.Mathlib.Nat.{not-suc-le-zero}
 use native.Mathlib.Omega.{arith}
 use borrow.Author.Tests.{ltb-true, ltb-false}
 use lib.Dec.{ltb}
 use lib.ListN.{length, take, drop, length-append, length-drop, length-map, take-append-drop}
-use lib.Seq.{drop-drop, length-take-le, take-take, take-append-le, drop-append-le, drop-append-add, drop-at}
+use lib.Seq.{drop-drop, length-take-le, drop-append-add, drop-at}
 use Rattle.layout.specs.Answer.{Told, Answer, got, refused, pick}
 use Rattle.layout.proofs.laws.Determined.{Tells, retracts}
-use Rattle.layout.proofs.laws.Reading.{drop-take}
 use Rattle.layout.proofs.laws.Tidied.{zero-one}
+use Rattle.layout.proofs.laws.Words.{no-bytes}
 use Rattle.wire.specs.Returned.{partOf}
 use Rattle.wire.specs.declared.Part.{Part}
 use Rattle.recording.specs.Content.{Record}
@@ -23,7 +22,7 @@ use Rattle.recording.specs.Record.{recordOf}
 use Rattle.recording.specs.Row.{rowFrom, rowOf}
 use Rattle.recording.specs.Copied.{move}
 use Rattle.recording.proofs.laws.Rowed.{Stands}
-use Rattle.recording.proofs.laws.Fronted.{record-before, row-join, row-rest, row-not}
+use Rattle.recording.proofs.laws.Fronted.{body-same, record-before, row-join, row-rest, row-not}
 use Rattle.mending.specs.declared.Mended as declared
 use Rattle.mending.specs.declared.Mended.the-variants as mended
 use Rattle.mending.specs.declared.window.Swept.{Swept}
@@ -195,10 +194,6 @@ nothing-missed s = rw (told-whole s) at (missing s 0 s refl 0 (omega arith) (λ 
 
 -- ── a sound recording ──
 
-pub no-bytes : (s : List ℕ) → length s ≤ 0 → s ≡ []
-no-bytes [] h = refl
-no-bytes (b ∷ s) h = absurd (not-suc-le-zero h)
-
 Unchanged : ℕ → List ℕ → Type 0
 Unchanged place s = (xs : List Record) (m : ℕ) → rowOf s ≡ got xs m → (text place s ≡ s) × (told place 0 s ≡ []) × (length (parts place s) ≡ length xs)
 
@@ -238,17 +233,6 @@ pub record Accepted (v w : List ℕ) (ps : List Part) : Type 0 where
 matches-behind : (v b w : List ℕ) {ps : List Part} {ys : List Record} → Matches v w ps ys → Matches v (b ++ w) ps (map (move (length b)) ys)
 matches-behind v b w no-more = no-more
 matches-behind v b w (and-one {y = y} e k f r) = and-one e k (f ∙ ap (take (y .body .count)) (sym (drop-append-add b w (y .body .start)))) (matches-behind v b w r)
-
--- a record's body, from its own bytes
-body-same : (s w : List ℕ) (c : ℕ) → 6 + c ≤ length s → take c (drop 6 s) ≡ take c (drop 6 (take (6 + c) s ++ w))
-body-same s w c h =
-    let b = take (6 + c) s in
-    let long : length b ≡ 6 + c = length-take-le (6 + c) s h in
-    sym
-    (ap (take c) (drop-append-le 6 b w (omega (arith, long)))
-    ∙ take-append-le c (drop 6 b) w (omega (arith, long, length-drop 6 b))
-    ∙ ap (take c) (drop-take 6 c s)
-    ∙ take-take c c (drop 6 s) (omega arith))
 
 -- one record more in front
 accepted-one : (v s : List ℕ) (place : ℕ) {x : Record} {n : ℕ} → drop place v ≡ s → got x n ≡ recordOf s → Stands s x n → (w : List ℕ) (ps : List Part) → Accepted v w ps → Accepted v (take n s ++ w) (part place n ∷ ps)

@@ -3,8 +3,8 @@
 -- Assumes nothing.
 use mathlib.Core.Path.{_≡_, refl, sym, ap, _∙_}
 use mathlib.Core.Bool.{Bool, true, false}
-use mathlib.Core.List.{List, [], _∷_, _++_, append-assoc, append-nil}
-use Prim.Native.Nat.{ℕ, suc, _+_, _-_, _%_, _^_, _≤_, _<_}
+use mathlib.Core.List.{List, [], _++_, append-assoc, append-nil}
+use Prim.Native.Nat.{ℕ, _+_, _-_, _%_, _^_, _≤_, _<_}
 use native.Mathlib.Omega.{arith}
 use borrow.Author.Tests.{le-leb, ltb-true, ltb-false, eqb-true}
 use lib.Dec.{leb, ltb}
@@ -13,6 +13,7 @@ use lib.Seq.{drop-drop, drop-append-le, take-at, take-append-seam}
 use Rattle.layout.specs.Answer.{pick}
 use Rattle.layout.proofs.laws.Reading.{drop-take}
 use Rattle.layout.proofs.laws.Tidied.{zero-one}
+use Rattle.layout.proofs.laws.Words.{no-bytes}
 use Rattle.wire.specs.declared.Part.{Part}
 use Rattle.mending.specs.declared.window.Tally.{Tally}
 use Rattle.mending.specs.declared.turn.Stand.{Stand}
@@ -187,17 +188,10 @@ module _ (window out : List ℕ) (s : Stand) (later : List ℕ) (h : Stood windo
       stood-joined = record {
         in-it = lies-both (joined (asks window out s w .stand) (length bytes)) (rw unwrapped (omega (arith, short, fits))) (omega arith);
         wide = as-wide;
-        final = λ e. over (none-in bytes (eqb-true (length bytes) 0 e));
+        final = λ e. over (no-bytes bytes (omega (arith, eqb-true (length bytes) 0 e)));
         sound = rw ahead-joined (sound-left q);
         few = rw ahead-joined (few-left (s .stretches) q (h .few));
       }
-        where
-          none-in : (bs : List ℕ) → length bs ≡ 0 → bs ≡ []
-          none-in [] e = refl
-          none-in (b ∷ bs) e = absurd (some e)
-            where
-              some : suc (length bs) ≡ 0 → ⊥
-              some e = omega arith
 
     -- the input has ended: nothing is held, and the stretch that was open is told
     module _ (ended : s .ended ≡ true) where

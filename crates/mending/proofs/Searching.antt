@@ -4,13 +4,8 @@ use mathlib.Core.Path.{_≡_, subst}
 use mathlib.Core.List.{List}
 use Prim.Native.Nat.{ℕ, _+_, _-_, _≤_}
 use native.Mathlib.Omega.{arith}
-use lib.ListN.{length, take, drop, length-drop}
-use lib.Seq.{take-length}
+use lib.ListN.{length}
 use Rattle.mending.specs.Passed.{Keeps, Ended, Row}
-
--- the part of a slice from a place on
-pub part-from : (s : List ℕ) (n : ℕ) → take (length s - n) (drop n s) ≡ drop n s
-part-from s n = rw (← length-drop n s) (take-length (drop n s))
 
 -- the records that were found, with `left` of the room left
 pub row-so : {s : List ℕ} {from room end records left : ℕ} → Keeps s from end records → from ≤ end → end ≤ length s → left + (end - from) ≡ room → records ≤ end - from → Ended left s end →

@@ -12,6 +12,7 @@ use lib.ListN.{length, take, drop, length-drop}
 use lib.Seq.{drop-drop, take-add}
 use Rattle.layout.specs.Answer.{Answer, Told, got, refused, pick}
 use Rattle.layout.proofs.laws.Accepted.{Accepts, accepts-all}
+use Rattle.layout.proofs.laws.Reading.{pick-alike}
 use Rattle.layout.proofs.laws.Tidied.{zero-one}
 use Rattle.wire.specs.declared.Part.{Part}
 use Rattle.recording.specs.Content.{Record}
@@ -47,11 +48,7 @@ sane-long t n h = rw (le-ltb (t .place + n) (2 ^ 64) h)
 
 pub sane-over : (t : Tally) (n : ℕ) → t .place < t .bytes + t .untold → sane t n ≡ false
 unfolding sane
-sane-over t n h = rw (lt-leb (t .bytes + t .untold) (t .place) h) (either (ltb (t .place + n) (2 ^ 64)))
-  where
-    either : (b : Bool) → pick b false false ≡ false
-    either true = refl
-    either false = refl
+sane-over t n h = rw (lt-leb (t .bytes + t .untold) (t .place) h) (pick-alike (ltb (t .place + n) (2 ^ 64)) false)
 
 pub sane-by : (t : Tally) (n : ℕ) → t .place + n < 2 ^ 64 → t .bytes + t .untold ≤ t .place → sane t n ≡ leb (t .records) (t .bytes)
 unfolding sane
@@ -96,9 +93,6 @@ module _ (last : Bool) where
   none-from zero room slots s t h = refl
   none-from (suc f) room slots s t h = rw (le-ltb 0 (length s) h)
 
-  less : (s : List ℕ) (n b : ℕ) → 0 < n → length s ≤ suc b → length (drop n s) ≤ b
-  less s n b e h = rw (length-drop n s) (omega arith)
-
   enough : (f g room slots : ℕ) (s : List ℕ) (t : Tally) → length s ≤ f → length s ≤ g → sweepFrom f last room slots s t ≡ sweepFrom g last room slots s t
   unfolding sweepFrom
   enough zero g room slots s t h k = none-from zero room slots s t h ∙ sym (none-from g room slots s t h)
@@ -106,8 +100,8 @@ module _ (last : Bool) where
   enough (suc f) (suc g) room slots s t h k =
       ap (λ w. pick (ltb 0 (length s)) (pick (waits last s) (rests t) w) (closes last slots t))
       (judged-same room slots s t (recordOf s) (λ r k n u. sweepFrom f last r k (drop n s) u) (λ r k n u. sweepFrom g last r k (drop n s) u)
-      (accepts-all (Stands s) _ (recordOf s) (record-stands s) λ x n p r q u. enough f g r q (drop n s) u (less s n f (omega (arith, p .till)) h) (less s n g (omega (arith, p .till)) k))
-      λ r q u. enough f g r q (drop 1 s) u (less s 1 f (omega arith) h) (less s 1 g (omega arith) k))
+      (accepts-all (Stands s) _ (recordOf s) (record-stands s) λ x n p r q u. enough f g r q (drop n s) u (omega (arith, length-drop n s, p .till)) (omega (arith, length-drop n s, p .till)))
+      λ r q u. enough f g r q (drop 1 s) u (omega (arith, length-drop 1 s)) (omega (arith, length-drop 1 s)))
 
   pub sweep-none : (room slots : ℕ) (s : List ℕ) (t : Tally) → length s ≤ 0 → sweepOf last room slots s t ≡ closes last slots t
   unfolding sweepOf
@@ -152,11 +146,7 @@ module _ (last : Bool) where
     sweep-room r = found ∙ rw (lt-leb n room r)
 
     pub sweep-slots : slots < length (opened t) → sweepOf last room slots s t ≡ rests t
-    sweep-slots k = found ∙ rw (lt-leb (length (opened t)) slots k) (either (leb n room))
-      where
-        either : (b : Bool) → pick b (rests t) (rests t) ≡ rests t
-        either true = refl
-        either false = refl
+    sweep-slots k = found ∙ rw (lt-leb (length (opened t)) slots k) (pick-alike (leb n room) (rests t))
 
   -- ── at a place ──
 

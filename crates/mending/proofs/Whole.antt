@@ -9,9 +9,10 @@ use borrow.Author.Tests.{le-leb, lt-leb, ltb-true, ltb-false}
 use lib.Dec.{leb, ltb}
 use lib.ListN.{length, take, drop, length-append, length-drop}
 use lib.Seq.{length-take-le}
-use Rattle.layout.specs.Answer.{Answer, Told, got, refused, bare, pick}
+use Rattle.layout.specs.Answer.{Answer, Told, got, refused, bare}
 use Rattle.layout.specs.Refusals.{ROOM}
 use Rattle.layout.proofs.laws.Accepted.{Accepts}
+use Rattle.layout.proofs.laws.Reading.{pick-alike}
 use Rattle.recording.specs.Content.{Record}
 use Rattle.recording.specs.Record.{recordOf}
 use Rattle.recording.proofs.laws.Rowed.{Stands, record-stands}
@@ -92,11 +93,7 @@ module _ (s out starts lengths : List ℕ) where
 
   pub mends-few : {t : Told} → slots < length (droppedOf s) → t ≡ bare ROOM → Mends s out starts lengths (refused t) out starts lengths
   unfolding hasRoom
-  mends-few h f = refused-so (rw (lt-leb (length (droppedOf s)) slots h) (either (leb (length (mendSaid s)) (length out)))) f
-    where
-      either : (b : Bool) → pick b false false ≡ false
-      either true = refl
-      either false = refl
+  mends-few h f = refused-so (rw (lt-leb (length (droppedOf s)) slots h) (pick-alike (leb (length (mendSaid s)) (length out)) false)) f
 
   pub mends-done : {r : Swept} {out′ starts′ lengths′ : List ℕ} → length (mendSaid s) ≤ length out → length (droppedOf s) ≤ slots → Sweeps (sweepOf true (length out) slots s fresh) out starts lengths r out′ starts′ lengths′ →
       Mends s out starts lengths (got (r .stretches) (r .written)) out′ starts′ lengths′

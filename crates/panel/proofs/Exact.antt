@@ -3,7 +3,7 @@
 -- Assumes nothing.
 use mathlib.Core.Path.{_≡_, refl, ap, sym, _∙_}
 use mathlib.Core.Bool.{Bool, true, false}
-use mathlib.Core.Logic.{_↔_}
+use mathlib.Core.Logic.{_↔_, _⊎_, inl, inr}
 use mathlib.Core.List.{List, _++_}
 use Prim.Native.Nat.{ℕ, _+_, _≤_, _<_}
 use native.Mathlib.Omega.{arith}
@@ -13,9 +13,10 @@ use lib.ListN.{length, drop, length-append}
 use Rattle.layout.specs.Answer.{Told, Answer, got, refused, pick, after, means, bare}
 use Rattle.layout.specs.Bytes.{Bytes, bytes}
 use Rattle.layout.specs.Grammar.{loose, tidy}
-use Rattle.layout.specs.Refusals.{ROOM, COUNT, TRAIL}
+use Rattle.layout.specs.Refusals.{END, TEXT, ROOM, COUNT, TRAIL}
 use Rattle.layout.specs.Written.{says, no, answerOf, leftOf}
 use Rattle.layout.proofs.laws.Numbers.{length-bytes}
+use Rattle.layout.proofs.laws.Reading.{parted, picked, refused-meant, one-got}
 use Rattle.layout.proofs.laws.Tidied.{zero-one}
 use Rattle.session.specs.Payloads.{filling}
 use Rattle.session.specs.Transaction.{Turn, turn, together, withData, Makes}
@@ -23,16 +24,16 @@ use Rattle.session.specs.declared.transaction.Session.{Session}
 use Rattle.wire.specs.Codecs.{value}
 use Rattle.wire.specs.Container.{isKind, containerWord, paramBytes, commandSaid}
 use Rattle.wire.specs.Layout.{shape, Val, Value, Reading}
-use Rattle.wire.specs.Places.{valueAt, shapeIn, filledAt}
+use Rattle.wire.specs.Places.{Located, valueAt, shapeIn, filledAt}
 use Rattle.wire.specs.Property.{propertyAt, propertyIn}
 use Rattle.wire.proofs.laws.Contained.{container-length, said-10, said-bytes, said-command}
+use Rattle.wire.proofs.laws.Formats.{value-format}
+use Rattle.wire.proofs.laws.Told.{value-refusal, property-refusal}
 use Rattle.panel.specs.Allowed.{Allowed}
 use Rattle.panel.specs.Panel.{readingOf, valueOf, suits, Chosen, chosenIn, setDevicePropValue, sent, panelSaid}
 use Rattle.panel.specs.Refusals.{TYPE, VALUE}
 use Rattle.panel.specs.Test.{allows}
-use Rattle.panel.proofs.Broken.{Breaks, other, property-breaks, value-breaks}
 use Rattle.panel.proofs.Tested.{allows-exactly}
-use Rattle.panel.proofs.Values.{parted, value-format}
 use Rattle.panel.proofs.Weighing.{chosen-word}
 
 -- two refusals with no place are told apart by their numbers
@@ -58,25 +59,27 @@ module _ (there : Bool) (d : List ℕ) (t : ℕ) (chosen : List ℕ) where
 
   -- ── 16 ──
 
+  -- what a reader refuses is 1 or 2
+  not-16 : {u : Told} → u ≡ bare VALUE → (u .no ≡ END) ⊎ (u .no ≡ TEXT) → ⊥
+  unfolding bare
+  not-16 e (inl f) = omega (arith, ap (λ (t : Told). t .no) e)
+  not-16 e (inr f) = omega (arith, ap (λ (t : Told). t .no) e)
+
   reading-never : (u : Told) → readingOf there d ≡ refused u → u ≡ bare VALUE → ⊥
-  unfolding readingOf means
-  reading-never u e is = go (propertyAt there d 0) (property-breaks there d) e
-    where
-      go : (x : Answer _) → Breaks x → means (propertyIn d) x ≡ refused u → ⊥
-      go (got a n) h e = zero-one (cc)
-      go (refused w) h e = let same : w ≡ u = cc in other 13 w h (same ∙ is)
+  unfolding readingOf
+  reading-never u e is = not-16 is (property-refusal there d 0 u (refused-meant (propertyIn d) (propertyAt there d 0) e))
 
   value-never : (u : Told) → valueOf t chosen ≡ refused u → u ≡ bare VALUE → ⊥
-  unfolding valueOf means filling filledAt after
-  value-never u e is = first (valueAt t chosen 0) (value-breaks t chosen 0) e
+  unfolding valueOf filling filledAt after
+  value-never u e is = first (valueAt t chosen 0) refl (refused-meant (shapeIn (shape t) chosen) (filling (valueAt t) chosen) e)
     where
-      second : (l : _) (n : ℕ) (b : Bool) → means (shapeIn (shape t) chosen) (after (pick {A = Answer (Unit {0})} b (refused (bare TRAIL)) (got tt n)) λ _ end. got l end) ≡ refused u → ⊥
+      second : (l : Located) (n : ℕ) (b : Bool) → after (pick b (refused (bare TRAIL)) (got (tt {0}) n)) (λ _ end. got l end) ≡ refused u → ⊥
       second l n true e = let same : bare TRAIL ≡ u = cc in let z = bare-is TRAIL VALUE (same ∙ is) in omega arith
       second l n false e = zero-one (cc)
 
-      first : (x : Answer _) → Breaks x → means (shapeIn (shape t) chosen) (after x λ l n. after (filledAt chosen n) λ _ end. got l end) ≡ refused u → ⊥
-      first (got l n) h e = second l n (ltb n (length chosen)) e
-      first (refused w) h e = let same : w ≡ u = cc in other 13 w h (same ∙ is)
+      first : (x : Answer Located) → valueAt t chosen 0 ≡ x → after x (λ l n. after (filledAt chosen n) λ _ end. got l end) ≡ refused u → ⊥
+      first (got l n) f e = second l n (ltb n (length chosen)) e
+      first (refused w) f e = let same : w ≡ u = cc in not-16 is (value-refusal t chosen 0 u (f ∙ ap refused same))
 
   chosen-16 : chosenIn there d t chosen ≡ refused (bare VALUE) → (r : Reading) × (v : Val) × Fitting r v × (allows (r .form) v ≡ false)
   unfolding chosenIn after
@@ -104,19 +107,11 @@ module _ (there : Bool) (d : List ℕ) (t : ℕ) (chosen : List ℕ) where
   chosen-got : (c : Chosen) (n : ℕ) → chosenIn there d t chosen ≡ got c n → (r : Reading) × (v : Val) × Fitting r v × (allows (r .form) v ≡ true) × (c ≡ so r v)
   unfolding chosenIn
   chosen-got c n e =
-      let a = parted (readingOf there d) _ (sym e) in
-      first (a .0) (a .1) (sym (a .2)) (suits (a .0) t) refl (a .3)
-    where
-      second : (r : Reading) (v : Val) → Fitting r v → (m : ℕ) (b : Bool) → allows (r .form) v ≡ b → got c n ≡ pick b (got (so r v) m) (refused (bare VALUE)) → (r : Reading) × (v : Val) × Fitting r v × (allows (r .form) v ≡ true) × (c ≡ so r v)
-      second r v f m true g e = (r, v, f, g, cc)
-      second r v f m false g e = zero-one (cc)
-
-      first : (r : Reading) (k : ℕ) → readingOf there d ≡ got r k → (b : Bool) → suits r t ≡ b → got c n ≡ pick b (after (valueOf t chosen) λ v m. pick (allows (r .form) v) (got (so r v) m) (refused (bare VALUE))) (refused (bare TYPE)) →
-          (r : Reading) × (v : Val) × Fitting r v × (allows (r .form) v ≡ true) × (c ≡ so r v)
-      first r k f true g e =
-          let b = parted (valueOf t chosen) _ e in
-          second r (b .0) (record { taken = k; read = f; suits = g; size = b .1; value = sym (b .2) }) (b .1) (allows (r .form) (b .0)) refl (b .3)
-      first r k f false g e = zero-one (cc)
+      let a = parted (readingOf there d) _ e in
+      let s = picked (suits (a .0) t) _ _ (a .3) in
+      let b = parted (valueOf t chosen) _ (s .1) in
+      let v = picked (allows (a .0 .form) (b .0)) _ _ (b .3) in
+      (a .0, b .0, record { taken = a .1; read = a .2; suits = s .0; size = b .1; value = b .2 }, v .0, sym (one-got (v .1) .0))
 
 -- ── what is sent ──
 

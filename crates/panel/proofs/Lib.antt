@@ -1,4 +1,3 @@
-pub mod Values
 pub mod Types
 pub mod Members
 pub mod Spans
@@ -7,7 +6,6 @@ pub mod Weighing
 pub mod Sending
 pub mod Tested
 pub mod Extremes
-pub mod Broken
 pub mod Exact
 pub mod Scanning
 pub mod Rows

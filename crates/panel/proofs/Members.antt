@@ -10,29 +10,26 @@ use borrow.Author.Tests.{ne-eqb, eqb-true, eqb-false, lt-ltb, le-ltb}
 use denote.Ref.{RefT, now}
 use lib.Dec.{eqb, ltb}
 use lib.ListN.{length, take, drop, length-append}
-use lib.Seq.{take-all, take-at, drop-at}
+use lib.Seq.{take-at, drop-at}
 use Rattle.layout.specs.Answer.{Answer, got, refused, pick}
 use Rattle.layout.specs.Bytes.{cells}
 use Rattle.layout.specs.Codec.{celled}
-use Rattle.layout.specs.Format.{Stands}
 use Rattle.layout.specs.Grammar.{loose, Number, empty, lead, such, as′, both, Repeat, Spare}
 use Rattle.layout.proofs.laws.Make.{num-size, cells-size, cells-format, repeat-length}
 use Rattle.layout.proofs.laws.Single.{single-number, single-repeat}
 use Rattle.layout.proofs.laws.Tidied.{zero-one}
+use Rattle.layout.proofs.laws.Words.{self}
 use Rattle.wire.specs.Codecs.{value}
 use Rattle.wire.specs.Layout.{Text, string, Shaped, Val, str, Value}
 use Rattle.wire.specs.List.{next, end, stepped, stepAt, saysStep}
 use Rattle.wire.specs.Places.{Located, valueAt}
 use Rattle.wire.specs.Worded.{Worded, Yields, ended, yields}
 use Rattle.wire.specs.declared.list.Step.{Step}
+use Rattle.wire.proofs.laws.Formats.{value-format, own-word}
 use Rattle.panel.specs.Test.{val-discrete, decided, isMember}
 use Rattle.panel.specs.Words.{coreOf, rest}
-use Rattle.panel.proofs.Values.{value-format, own-word}
 
 -- ── two words of one type ──
-
-pub self : (w : List ℕ) → Stands w 0 (length w) w
-self w = record { is = take-all (length w) w (omega arith); till = omega arith }
 
 -- one word has one value
 one-value : (t : ℕ) (w : List ℕ) (v v′ : Val) → Value t loose w v → Value t loose w v′ → v ≡ v′

@@ -24,10 +24,10 @@ use Rattle.wire.specs.Says.{located}
 use Rattle.wire.specs.declared.list.Step.the-variants as step
 use Rattle.wire.specs.declared.value.Value as declared
 use Rattle.wire.specs.declared.value.Value.the-variants as values
+use Rattle.wire.proofs.laws.Formats.{own-word}
 use Rattle.panel.specs.Test.{isMember}
 use Rattle.panel.specs.Words.{plainWidth, Plain, one-byte, two-bytes, four-bytes, eight-bytes, isIn, laidOut, coreOf}
 use Rattle.panel.proofs.Members.{Here, Turn, turn, over, same-core, member-here, member-later}
-use Rattle.panel.proofs.Values.{own-word}
 
 -- ── the types ──
 

@@ -14,7 +14,9 @@ use Rattle.layout.specs.Written.{says, no, Wrote, saidOf, tidied}
 use Rattle.layout.proofs.laws.Did.{whole, Kept, not-due, too-short, kept}
 use Rattle.layout.proofs.laws.Make.{repeat-length}
 use Rattle.layout.proofs.laws.Numbers.{length-bytes}
+use Rattle.layout.proofs.laws.Reading.{unmeant, refused-meant}
 use Rattle.layout.proofs.laws.Tidied.{zero-one}
+use Rattle.layout.proofs.laws.Words.{self}
 use Rattle.layout.proofs.laws.Writing.{refusal}
 use Rattle.session.specs.Transaction.{withData, Makes, saysMade}
 use Rattle.session.specs.declared.transaction.Made.{Made}
@@ -23,10 +25,9 @@ use Rattle.wire.specs.Codecs.{text, value}
 use Rattle.wire.specs.Layout.{Text, string, Val, Shaped, Value}
 use Rattle.wire.specs.Tidy.{spelled}
 use Rattle.wire.specs.declared.container.Command.{Command}
+use Rattle.wire.proofs.laws.Formats.{value-format}
 use Rattle.wire.proofs.laws.Numbered.{given-none, some-size}
 use Rattle.panel.specs.Panel.{setDevicePropValue, Chosen, chosenIn, sent, panelSaid, Sends, IsValue}
-use Rattle.panel.proofs.Members.{self}
-use Rattle.panel.proofs.Values.{value-format, unmeant}
 use Rattle.panel.proofs.Weighing.{chosen-word}
 
 -- ── a string's tidy word ──
@@ -77,25 +78,20 @@ sent-as {x} {property} {w} {old} {new} {a} e f m = subst (λ q. Makes x (q .code
 
 -- ── the answer of the whole ──
 
-refused-meant : {A B : Type 0} (f : A → B) (x : Answer A) {u : Told} → refused u ≡ means f x → x ≡ refused u
-unfolding means
-refused-meant f (got a n) e = zero-one (cc)
-refused-meant f (refused t) e = cc
-
 module _ (there : Bool) (d chosen : List ℕ) (t : ℕ) where
   pub makes-chosen : {x : Session} {old : List ℕ} → Bytes chosen → (property n : ℕ) → got property n ≡ means (λ (c : Chosen). c .property) (chosenIn there d t chosen) → {r : Made} {new : List ℕ} → Sends x property t chosen old r new → Makes x 0x1016 (panelSaid there d t chosen) old (saysMade r) new
   unfolding sent
   makes-chosen {x} {old} h property n e {r} {new} s =
-      let c = unmeant (λ (c : Chosen). c .property) (chosenIn there d t chosen) e in
-      let m = s .sends (c .0 .value) (chosen-word there d chosen h t (c .0) n (sym (c .1))) in
-      subst (λ y. Makes x 0x1016 (sent t y) old (saysMade r) new) (c .1) (subst (λ p. Makes x 0x1016 (withData (setDevicePropValue p) ((value t) .write (c .0 .value))) old (saysMade r) new) (c .2) m)
+      let c = unmeant (λ (c : Chosen). c .property) (chosenIn there d t chosen) (sym e) in
+      let m = s .sends (c .0 .value) (chosen-word there d chosen h t (c .0) n (c .1)) in
+      subst (λ y. Makes x 0x1016 (sent t y) old (saysMade r) new) (sym (c .1)) (subst (λ p. Makes x 0x1016 (withData (setDevicePropValue p) ((value t) .write (c .0 .value))) old (saysMade r) new) (sym (c .2)) m)
 
   pub makes-refused : {x : Session} {old : List ℕ} (u : Told) → refused u ≡ means (λ (c : Chosen). c .property) (chosenIn there d t chosen) → Makes x 0x1016 (panelSaid there d t chosen) old (refused u) old
   unfolding sent means
   makes-refused {x} {old} u e =
-      subst (λ y. Makes x 0x1016 (sent t y) old (refused u) old) (sym (refused-meant (λ (c : Chosen). c .property) (chosenIn there d t chosen) e)) (record { written = refused u; wrote = refusal refl; answers = refl })
+      subst (λ y. Makes x 0x1016 (sent t y) old (refused u) old) (sym (refused-meant (λ (c : Chosen). c .property) (chosenIn there d t chosen) (sym e))) (record { written = refused u; wrote = refusal refl; answers = refl })
 
   pub chosen-is : Bytes chosen → (property n : ℕ) → got property n ≡ means (λ (c : Chosen). c .property) (chosenIn there d t chosen) → IsValue t chosen
   chosen-is h property n e =
-      let c = unmeant (λ (c : Chosen). c .property) (chosenIn there d t chosen) e in
-      (c .0 .value, chosen-word there d chosen h t (c .0) n (sym (c .1)))
+      let c = unmeant (λ (c : Chosen). c .property) (chosenIn there d t chosen) (sym e) in
+      (c .0 .value, chosen-word there d chosen h t (c .0) n (c .1))

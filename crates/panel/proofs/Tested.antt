@@ -13,6 +13,7 @@ use lib.Dec.{T, leb}
 use lib.IntN.{ℤ, pos, negsuc, natAbs, _+ℤ_, _-ℤ_, +ℤ-comm, -ℤ-+ℤ-cancel, +ℤ-negℤ-cancel}
 use lib.Signed.{leZ, _≤ℤ_}
 use Rattle.layout.specs.Answer.{pick}
+use Rattle.layout.proofs.laws.Make.{tested}
 use Rattle.layout.proofs.laws.Tidied.{zero-one}
 use Rattle.wire.specs.Layout.{int, nat, pair, Val, num, nums, str, nil, Form, range, list, no-form}
 use Rattle.panel.specs.Allowed.{Integer, signed, unsigned, Stepped, steps, lowest, highest, Ranged, Allowed, every, member, between}
@@ -25,10 +26,6 @@ use Rattle.panel.proofs.Spans.{whole, Fit, gap, word-range}
 
 holds : {b : Bool} → b ≡ true → T b
 holds e = subst T (sym e) tt
-
-held : (b : Bool) → T b → b ≡ true
-held true t = refl
-held false t = absurd t
 
 three : (x y z : Bool) → pick x (pick y z false) false ≡ true → (x ≡ true) × (y ≡ true) × (z ≡ true)
 three true true z e = (refl, refl, e)
@@ -86,10 +83,10 @@ module _ (low high : ℤ) where
       rw is (eq-eqb (k * suc n % suc n) 0 (mul-mod-left k (suc n)))
   step-tested (pos zero) v (lowest h) = rw (is-same low)
   step-tested (negsuc n) v (lowest h) = rw (is-same low)
-  step-tested (pos (suc n)) v (lowest h) = absurd (omega (arith, leb-true (suc n) 0 (held (leb (suc n) 0) (h .le))))
+  step-tested (pos (suc n)) v (lowest h) = absurd (omega (arith, leb-true (suc n) 0 (tested (leb (suc n) 0) (h .le))))
   step-tested (pos zero) v (highest h) = is-high (sameZ high low)
   step-tested (negsuc n) v (highest h) = is-high (sameZ high low)
-  step-tested (pos (suc n)) v (highest h) = absurd (omega (arith, leb-true (suc n) 0 (held (leb (suc n) 0) (h .le))))
+  step-tested (pos (suc n)) v (highest h) = absurd (omega (arith, leb-true (suc n) 0 (tested (leb (suc n) 0) (h .le))))
 
   pub range-exactly : (step v : ℤ) → (inRange low high step v ≡ true) ↔ Ranged low high step v
   unfolding inRange
@@ -97,7 +94,7 @@ module _ (low high : ℤ) where
     λ e.
         let a = three (leZ low v) (leZ v high) (onStep low high step v) e in
         record { above = record { le = holds (a .0) }; below = record { le = holds (a .1) }; stepped = on-step step v (a .0) (a .2) },
-    λ r. rw (held (leZ low v) (r .above .le), held (leZ v high) (r .below .le)) (step-tested step v (r .stepped)),
+    λ r. rw (tested (leZ low v) (r .above .le), tested (leZ v high) (r .below .le)) (step-tested step v (r .stepped)),
   )
 
 -- and so by the words that the code has, of integers that one type has: a span modulo 2^64, and a remainder

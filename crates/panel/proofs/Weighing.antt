@@ -15,7 +15,8 @@ use Rattle.layout.specs.Answer.{Answer, Told, got, refused, pick, after, means,
 use Rattle.layout.specs.Bytes.{Bytes}
 use Rattle.layout.specs.Grammar.{loose}
 use Rattle.layout.proofs.laws.Accepted.{accepted}
-use Rattle.layout.proofs.laws.Reading.{at-most}
+use Rattle.layout.proofs.laws.Meets.{filled, reads-exactly}
+use Rattle.layout.proofs.laws.Reading.{at-most, parted, picked, unmeant, one-got}
 use Rattle.layout.proofs.laws.Tidied.{zero-one}
 use Rattle.session.specs.Payloads.{filling}
 use Rattle.wire.specs.Description as placed
@@ -28,6 +29,8 @@ use Rattle.wire.specs.Property.{propertyAt, propertyIn}
 use Rattle.wire.specs.Worded.{Yields}
 use Rattle.wire.specs.declared.property.Slot.{Slot}
 use Rattle.wire.proofs.laws.Contained.{accepts-small}
+use Rattle.wire.proofs.laws.Formats.{value-format}
+use Rattle.wire.proofs.laws.Located.{values, filled-end}
 use Rattle.wire.proofs.laws.Nths.{its, steps}
 use Rattle.panel.specs.Panel.{isUndef, isRange, integral, suits, Suited, StandsAs, readingOf, valueOf, weighed, Chosen, chosenIn}
 use Rattle.panel.specs.Refusals.{TYPE, VALUE}
@@ -37,7 +40,6 @@ use Rattle.panel.proofs.Slots.{slotted, Three, property-three}
 use Rattle.panel.proofs.Spans.{whole, Fit, signed, natural, word-range}
 use Rattle.panel.proofs.Types.{Small, small}
 use Rattle.panel.proofs.Types as types
-use Rattle.panel.proofs.Values.{parted, unmeant, is-word}
 
 -- ── the integers of a type ──
 
@@ -65,17 +67,28 @@ integers (types.signed w h) = (
 )
 integers (types.unsigned w h) = (uint w, refl, record { side = false; of = pos; word = λ m. refl; is = λ m. refl; fit = λ m l. natural {n = m} (omega (arith, at-most 8 h)) })
 
+-- ── chosen bytes ──
+
+-- those that one value fills are a word of it
+is-word : (t : ℕ) (s : List ℕ) → Bytes s → (l : Located) (n : ℕ) → filling (valueAt t) s ≡ got l n → Value t loose s (shapeIn (shape t) s l)
+unfolding filling
+is-word t s h l n e =
+    let a = parted (valueAt t s 0) _ e in
+    let b = parted (filledAt s (a .1)) _ (a .3) in
+    let word = filled ((reads-exactly (value-format t) (values t) s h (valueAt t s 0) refl) .accepts (a .0) (a .1) (a .2)) (filled-end s (a .1) (b .1) (b .2)) in
+    subst (λ x. Value t loose s (shapeIn (shape t) s x)) (one-got (b .3) .0) word
+
 -- ── a range ──
 
 -- chosen bytes that are one number
 chosen-number : (k : Kind) (t : ℕ) → shape t ≡ one k → (s : List ℕ) → Bytes s → (l : Located) → StandsAs t s l → (m : ℕ) × (l ≡ number-is (meaning k m)) × (m < 256 ^ width k)
 unfolding filling shapeAt
 chosen-number k t kind s h l st =
-    let a = parted (valueAt t s 0) _ (sym (st .1)) in
+    let a = parted (valueAt t s 0) _ (st .1) in
     let b = parted (filledAt s (a .1)) _ (a .3) in
     let same : l ≡ a .0 = cc (b .3) in
-    let c = unmeant (λ m. number-is (meaning k m)) (numAt (width k) s 0) (subst (λ y. got (a .0) (a .1) ≡ shapeAt y s 0) kind (a .2)) in
-    (c .0, same ∙ c .2, accepted (λ v n. v < 256 ^ width k) (accepts-small (width k) s h 0) (c .1))
+    let c = unmeant (λ m. number-is (meaning k m)) (numAt (width k) s 0) (subst (λ y. shapeAt y s 0 ≡ got (a .0) (a .1)) kind (a .2)) in
+    (c .0, same ∙ sym (c .2), accepted (λ v n. v < 256 ^ width k) (accepts-small (width k) s h 0) (sym (c .1)))
 
 -- a range that suits its type is of integers
 suits-range : (d : List ℕ) (x : PropInfo) → Suited d x → (a b c : Slot) → x .form ≡ placed.range a b c → integral (x .«data_type») ≡ true
@@ -125,7 +138,7 @@ module _ (d chosen : List ℕ) (h : Bytes d) (g : Bytes chosen) (x : PropInfo) (
 
     pub list-allows : (b : Bool) → Finds t (rest r t (p .start) n) chosen b → b ≡ allows ((propertyIn d x) .form) (shapeIn (shape t) chosen l)
     unfolding allows list-gives
-    list-allows b q = q .finds (its (s .there) d h x (s .end) (s .read)) (shapeIn (shape t) chosen l) (list-gives .1) (is-word t chosen g l (st .0) (sym (st .1))) ∙ rw f
+    list-allows b q = q .finds (its (s .there) d h x (s .end) (s .read)) (shapeIn (shape t) chosen l) (list-gives .1) (is-word t chosen g l (st .0) (st .1)) ∙ rw f
 
   -- ── no form ──
 
@@ -173,17 +186,9 @@ chosen-unread there d chosen t u read = rw read
 pub chosen-word : (there : Bool) (d chosen : List ℕ) → Bytes chosen → (t : ℕ) (c : Chosen) (n : ℕ) → chosenIn there d t chosen ≡ got c n → Value t loose chosen (c .value)
 unfolding chosenIn valueOf
 chosen-word there d chosen h t c n e =
-    let a = parted (readingOf there d) _ (sym e) in
-    first (a .0) (suits (a .0) t) (a .3)
-  where
-    second : (r : Reading) (v : Val) (m : ℕ) (b : Bool) → got c n ≡ pick b (got (record { property = r .code; value = v }) m) (refused (bare VALUE)) → c .value ≡ v
-    second r v m true e = cc
-    second r v m false e = zero-one (cc)
-
-    first : (r : Reading) (b : Bool) → got c n ≡ pick b (after (valueOf t chosen) λ v m. pick (allows (r .form) v) (got (record { property = r .code; value = v }) m) (refused (bare VALUE))) (refused (bare TYPE)) → Value t loose chosen (c .value)
-    first r true e =
-        let b = parted (valueOf t chosen) _ e in
-        let l = unmeant (shapeIn (shape t) chosen) (filling (valueAt t) chosen) (b .2) in
-        let is : c .value ≡ shapeIn (shape t) chosen (l .0) = second r (b .0) (b .1) (allows (r .form) (b .0)) (b .3) ∙ l .2 in
-        subst (Value t loose chosen) (sym is) (is-word t chosen h (l .0) (b .1) (l .1))
-    first r false e = zero-one (cc)
+    let a = parted (readingOf there d) _ e in
+    let s = picked (suits (a .0) t) _ _ (a .3) in
+    let b = parted (valueOf t chosen) _ (s .1) in
+    let c = picked (allows (a .0 .form) (b .0)) _ _ (b .3) in
+    let l = unmeant (shapeIn (shape t) chosen) (filling (valueAt t) chosen) (b .2) in
+    subst (Value t loose chosen) (l .2 ∙ ap (λ (y : Chosen). y .value) (one-got (c .1) .0)) (is-word t chosen h (l .0) (b .1) (l .1))

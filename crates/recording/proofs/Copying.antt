@@ -9,13 +9,12 @@ use native.Mathlib.Omega.{arith}
 use borrow.Author.Tests.{ltb-false}
 use lib.Dec.{leb, ltb}
 use lib.ListN.{length, take, drop, length-append, length-drop, take-append-drop, drop-of-length-le}
-use lib.Seq.{length-take-le, take-add, take-take, drop-drop, take-append-le, drop-append-le, drop-append-add}
+use lib.Seq.{length-take-le, take-add, drop-drop, take-append-le, drop-append-le, drop-append-add}
 use Rattle.layout.specs.Answer.{Told, Answer, got, refused, bare, pick, after, means}
 use Rattle.layout.specs.Refusals.{ROOM}
 use Rattle.layout.specs.Written.{says, no, saidOf, answerOf, leftOf, spelling, Wrote}
 use Rattle.layout.proofs.laws.Accepted.{Accepts, accepted, accepts-after, accepts-means, accepts-pick}
 use Rattle.layout.proofs.laws.Determined.{Tells, retracts}
-use Rattle.layout.proofs.laws.Reading.{drop-take}
 use Rattle.layout.proofs.laws.Tidied.{zero-one}
 use Rattle.wire.specs.Returned.{partOf}
 use Rattle.recording.specs.Content.{Content, Record}
@@ -29,9 +28,10 @@ use Rattle.recording.specs.declared.copy.Left.{Left}
 use Rattle.recording.specs.declared.copy.Front.{Front}
 use Rattle.recording.specs.declared.copy.Copied as declared
 use Rattle.recording.specs.declared.copy.Copied.the-variants as copied
-use Rattle.recording.proofs.laws.Fronted.{record-before}
+use Rattle.recording.proofs.laws.Fronted.{body-same, record-before}
 use Rattle.recording.proofs.Moved.{shifted, record-moved, rows-join}
-use Rattle.recording.proofs.Placed.{Placed, record-placed, row-got, row-none, copied-adds}
+use Rattle.recording.proofs.Placed.{row-got, row-none, copied-adds}
+use Rattle.recording.proofs.laws.Rowed.{Placed, record-placed}
 use Rattle.recording.proofs.ReadBack.{record-returns}
 
 -- ── one answer ──
@@ -196,17 +196,6 @@ record Reread (s w : List ℕ) (xs : List Record) : Type 0 where
   pub read : rowOf w ≡ got records (length w)
   pub alike : Alike s w xs records
 
-body-same : (s w : List ℕ) (at c : ℕ) → 6 + c ≤ length (drop at s) → take c (drop (at + 6) s) ≡ take c (drop 6 (take (6 + c) (drop at s) ++ w))
-body-same s w at c h =
-    let b = take (6 + c) (drop at s) in
-    let long : length b ≡ 6 + c = length-take-le (6 + c) (drop at s) h in
-    sym
-    (ap (take c) (drop-append-le 6 b w (omega (arith, long)))
-    ∙ take-append-le c (drop 6 b) w (omega (arith, long, length-drop 6 b))
-    ∙ ap (take c) (drop-take 6 c (drop at s))
-    ∙ take-take c c (drop 6 (drop at s)) (omega arith)
-    ∙ ap (take c) (drop-drop 6 at s))
-
 -- the row of it alone
 alone-row : (s : List ℕ) (at : ℕ) {x : Record} → (a : Alone s at x) → rowOf (bytesIn s x) ≡ got (a .moved ∷ []) (length (bytesIn s x))
 unfolding means rowOf
@@ -232,7 +221,8 @@ reread-one s at {x} {n} e w xs r =
     let from : x .body .start ≡ at + 6 = p .start in
     let bodies : partOf s (x .body) ≡ partOf (b ++ w) (y .body) =
     ap (λ i. take (x .body .count) (drop i s)) from
-    ∙ body-same s w at (x .body .count) room
+    ∙ sym (ap (take (x .body .count)) (drop-drop 6 at s))
+    ∙ body-same (drop at s) w (x .body .count) room
     ∙ ap (λ i. take (x .body .count) (drop 6 (take (6 + x .body .count) (drop i s) ++ w))) (sym starts)
     ∙ ap (λ i. take (x .body .count) (drop i (b ++ w))) (sym first)
     ∙ ap (λ c. take c (drop (y .body .start) (b ++ w))) counts in

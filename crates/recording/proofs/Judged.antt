@@ -19,7 +19,7 @@ use Rattle.wire.specs.Container.{containerAt}
 use Rattle.wire.specs.Tests.{_gives_else_, holds, fails, Otherwise, otherwise}
 use Rattle.wire.specs.Refused.{announced, kindIn, ContainerTests, containerIn, ContainerSays}
 use Rattle.wire.specs.declared.container.Container.{Container}
-use Rattle.wire.proofs.laws.Judged.{one-test, one-otherwise, till, goes-on, enough, least-row, field-row, beyond, container-judged}
+use Rattle.wire.proofs.laws.Judged.{one-test, one-otherwise, till, goes-on, enough, least, least-row, field-row, beyond, container-judged}
 use Rattle.recording.specs.Record.{limit, isKind, begins, contentAt, bodyAt, headAt, headOf, recordAt, recordOf, saysRecord}
 use Rattle.recording.specs.Refused.{HeadTests, bodyIn, recordIn, FilledSays, ContentSays, RecordSays}
 use Rattle.recording.specs.declared.Head.{Head}
@@ -78,9 +78,6 @@ beyond-head : {A B : Type 0} (s : List ℕ) {P : Answer A → Type 0} {Q : Answe
     ((x : Answer A) → 6 ≤ announced s → announced s ≤ length s → P x → Q (after x k)) → (x : Answer A) → HeadTests s P x → HeadTests s Q (after x k)
 beyond-head s k f =
     goes-on k λ x _. goes-on k (λ x _. goes-on k (λ x known. goes-on k (λ x _. goes-on k (λ x short. f x (least (λ h. known (inl h))) (least short)) x) x) x) x
-  where
-    least : {m n : ℕ} → (n < m → ⊥) → m ≤ n
-    least {m} {n} not-less = omega arith
 
 -- ── the body ──
 

@@ -16,7 +16,7 @@ use Rattle.layout.proofs.laws.Final.{Bytes-append, Bytes-zeros}
 use Rattle.layout.specs.Refusals.{RECORD, LONG}
 use Rattle.wire.specs.Refused.{announced, kindIn}
 use Rattle.wire.specs.Tests.{holds, fails, otherwise}
-use Rattle.wire.proofs.laws.Judged.{one-test, one-otherwise, enough}
+use Rattle.wire.proofs.laws.Judged.{one-test, one-otherwise, enough, least}
 use Rattle.recording.specs.Record.{limit, recordOf, saysRecord}
 use Rattle.recording.specs.Refused.{RecordSays, Cut, in-front, in-body, CutSays}
 use Rattle.recording.specs.Row.{isEnd, isCut}
@@ -43,9 +43,6 @@ module _ (s : List ℕ) where
       known (inl h) l low high = enough l h
       known (inr (inl h)) l low high = enough low h
       known (inr (inr h)) l low high = enough high h
-
-      least : {m n : ℕ} → (n < m → ⊥) → m ≤ n
-      least {m} {n} not-less = omega arith
 
       go : {x : Answer Head} → HeadSays s x → CutSays s (isEnd x)
       go (holds h) = rw (end-no 0) (holds (in-front (omega arith)))

@@ -25,8 +25,8 @@ use Rattle.recording.specs.Record.{limit, begins, contentAt, bodyAt, hea
 use Rattle.recording.specs.Row.{rowFrom, rowOf, isCut}
 use Rattle.recording.specs.Copied.{moveTold, moveContent, moveContainer, move}
 use Rattle.recording.specs.declared.Head.{Head}
-use Rattle.recording.proofs.laws.Rowed.{uncut-same, whole-uncut}
-use Rattle.recording.proofs.Placed.{Placed, record-placed, rest, row-got, row-enough, row-ends}
+use Rattle.recording.proofs.laws.Rowed.{Placed, record-placed, uncut-same, whole-uncut}
+use Rattle.recording.proofs.Placed.{rest, row-got, row-enough, row-ends}
 
 -- ── answers, moved ──
 

@@ -1,4 +1,4 @@
--- Laws of records at places: where one ends, the row of them step by step, and what its steps come to for a copy.
+-- Laws of records at places: the row of them step by step, and what its steps come to for a copy.
 -- Assumes nothing.
 use mathlib.Core.Path.{_≡_, refl, sym, ap, subst, _∙_}
 use mathlib.Core.Bool.{Bool, true, false}
@@ -6,65 +6,27 @@ use mathlib.Core.List.{List, [], _∷_, _++_}
 use Prim.Native.Nat.{ℕ, zero, suc, _+_, _-_, _≤_, _<_}
 use native.Mathlib.Omega.{arith}
 use borrow.Author.Tests.{lt-ltb, le-ltb, ltb-false}
-use lib.Dec.{leb, ltb}
+use lib.Dec.{ltb}
 use lib.ListN.{length, take, drop, length-append, length-drop}
 use lib.Seq.{length-take-le}
-use Rattle.layout.specs.Answer.{Told, Answer, got, refused, bare, pick, after, means, spanAt}
-use Rattle.layout.specs.Bytes.{number}
+use Rattle.layout.specs.Answer.{Told, Answer, got, refused, bare, pick, after, means}
 use Rattle.layout.specs.Refusals.{ROOM}
 use Rattle.layout.specs.Written.{says, no, saidOf, answerOf, Wrote, took, spelling, Put, roomed}
-use Rattle.layout.proofs.laws.Accepted.{Accepts, accepted, accepts-all, accepts-means, accepts-after, accepts-pick, accepts-field}
-use Rattle.layout.proofs.laws.Make.{Spanned, there, short, spanned}
+use Rattle.layout.proofs.laws.Accepted.{Accepts, accepted, accepts-all, accepts-means, accepts-after, accepts-pick}
 use Rattle.layout.proofs.laws.Reading.{stop, means-means}
-use Rattle.layout.proofs.laws.Tidied.{zero-one}
+use Rattle.layout.proofs.laws.Tidied.{zero-one, took-more}
 use Rattle.layout.proofs.laws.Writing.{Owes, start, end, roomy, long, in-room, nothing, refusal, no-room, done}
 use Rattle.layout.proofs.laws.Writing.{part as parted}
-use Rattle.wire.specs.Places.{numAt}
 use Rattle.recording.specs.Content.{Record}
-use Rattle.recording.specs.Record.{limit, isWritten, begins, contentAt, bodyAt, headAt, recordAt}
+use Rattle.recording.specs.Record.{isWritten, contentAt, headAt, recordAt}
 use Rattle.recording.specs.Row.{rowFrom, rowOf, onward, wholeFrom}
 use Rattle.recording.specs.Copied.{bytesIn, keptOf, kept, copySaid, none, counted, leftBy, leftOut, copyOf, Copies}
 use Rattle.recording.specs.declared.Head.{Head}
 use Rattle.recording.specs.declared.copy.Left.{Left}
-use Rattle.recording.proofs.laws.Rowed.{content-ends, after-same}
+use Rattle.recording.proofs.laws.Rowed.{head-placed, content-ends, Placed, record-placed, after-same}
 
--- ── where a record ends ──
+-- ── a record's head ──
 
-span-within : (field n : ℕ) (s : List ℕ) (at : ℕ) → Accepts (λ _ m. (n ≤ length s - at) × (m ≡ at + n)) (spanAt field n s at)
-span-within field n s at = go (spanAt field n s at) (spanned field n s at)
-  where
-    go : (x : Answer (Unit {0})) → Spanned field n s at x → Accepts (λ _ m. (n ≤ length s - at) × (m ≡ at + n)) x
-    go (got t m) (there h) = (h, refl)
-    go (refused t) (short h) = tt
-
-body-placed : (len kind : ℕ) (s : List ℕ) (start : ℕ) → start ≤ length s → Accepts (λ h n. (h .body .start ≡ start) × (n ≡ start + h .body .count) × (n ≤ length s)) (bodyAt len kind s start)
-unfolding bodyAt
-body-placed len kind s start h =
-    accepts-pick _ (begins len kind) _ _
-    (λ _. accepts-pick _ (leb (len - 6) limit) _ _ (λ _. accepts-means _ _ _ (spanAt start (len - 6) s start) (span-within start (len - 6) s start) λ _ n p. (refl, p .1, omega (arith, p .0, p .1))) (λ _. tt))
-    (λ _. tt)
-
-pub head-placed : (s : List ℕ) (at : ℕ) → Accepts (λ h n. (h .body .start ≡ at + 6) × (n ≡ at + 6 + h .body .count) × (n ≤ length s)) (headAt s at)
-unfolding headAt
-head-placed s at =
-    accepts-after _ _ (numAt 4 s at) _ (accepts-field 4 number s at) λ len a p.
-    accepts-after _ _ (numAt 2 s a) _ (accepts-field 2 number s a) λ kind start q.
-    accepts-all _ _ (bodyAt len kind s start) (body-placed len kind s start (omega (arith, q .0, q .1))) λ h n r. (omega (arith, p .1, q .1, r .0), omega (arith, p .1, q .1, r .1), r .2)
-
-pub record Placed (s : List ℕ) (at : ℕ) (x : Record) (n : ℕ) : Type 0 where
-  pub start : x .body .start ≡ at + 6
-  pub till : n ≡ at + 6 + x .body .count
-  pub within : n ≤ length s
-
-pub record-placed : (s : List ℕ) (at : ℕ) → Accepts (Placed s at) (recordAt s at)
-unfolding recordAt
-record-placed s at =
-    accepts-after _ _ (headAt s at) _ (head-placed s at) λ h end p.
-    accepts-means _ _ _ (contentAt (h .kind) (take end s) (h .body .start)) (content-ends (h .kind) (take end s) (h .body .start)) λ c n e.
-    let same : n ≡ end = e ∙ length-take-le end s (p .2) in
-    record { start = p .0; till = same ∙ p .1; within = omega (arith, p .2) }
-
--- its head
 abbrev headFrom : Record → Head
 headFrom x = record { kind = x .kind; body = x .body }
 
@@ -226,12 +188,6 @@ pub kept-none : (s : List ℕ) (at : ℕ) → length s ≤ at → spelling (kept
 unfolding means keptOf
 kept-none s at h = ap (λ y. spelling (means (keptOf s) y)) (row-none s at h)
 
--- a part before what is taken
-pub took-part : (bs : List ℕ) (y : Answer (List ℕ)) → took (means (λ ws. bs ++ ws) y) ≡ true → (took y ≡ true) × (spelling (means (λ ws. bs ++ ws) y) ≡ bs ++ spelling y)
-unfolding means
-took-part bs (got w n) h = (refl, refl)
-took-part bs (refused t) h = zero-one (cc)
-
 -- ── the writer's loop ──
 
 pub nothing-put : {out : List ℕ} {o : ℕ} → Put out o (roomed out o []) out o
@@ -253,7 +209,7 @@ pub going-on : {s out₀ out new : List ℕ} {at o next n : ℕ} {h : Head} → 
 going-on {s} {out₀} {out} {new} {at} {o} {next} {n} {h} g within e wrote =
     let turn = kept-turn s at within (g .all) e in
     let bs = part s (h .kind) at (h .body .count) in
-    let both = took-part bs (kept-from s n) (rw turn at (g .all)) in
+    let both = took-more bs (kept-from s n) (rw turn at (g .all)) in
     let split : spelling (kept-from s at) ≡ bs ++ spelling (kept-from s n) = ap spelling turn ∙ both .1 in
     let size : length (spelling (kept-from s at)) ≡ length bs + length (spelling (kept-from s n)) = ap length split ∙ length-append bs (spelling (kept-from s n)) in
     let did : Put out o bs new next = roomy bs wrote (omega (arith, g .room, size)) in

@@ -11,7 +11,7 @@ use Rattle.layout.specs.Answer.{Answer, got, after, means}
 use Rattle.layout.specs.Bytes.{number}
 use Rattle.layout.specs.Refusals.{TRAIL, RECORD, LONG}
 use Rattle.layout.specs.Told.{PlacedExactly, Inside}
-use Rattle.layout.proofs.laws.Told.{Telling, read, ended, spoilt, other, plainly, Closed, telling-pick, telling-after, telling-means, telling-span, telling-field, told-from-0}
+use Rattle.layout.proofs.laws.Told.{Telling, read, ended, spoilt, other, plainly, Closed, telling-pick, telling-after, telling-means, telling-span, telling-field, told-from-0, front-closed}
 use Rattle.layout.proofs.laws.Accepted.{Accepts}
 use Rattle.wire.proofs.laws.Told.{container-telling}
 use Rattle.recording.specs.Content.{Record}
@@ -19,7 +19,7 @@ use Rattle.recording.specs.Record.{limit, begins, contentAt, bodyAt, hea
 use Rattle.recording.specs.declared.Head.{Head}
 use Rattle.recording.specs.declared.ReadHead.{ReadHead}
 use Rattle.recording.specs.declared.ReadRecord.{ReadRecord}
-use Rattle.recording.proofs.laws.Rowed.{head-stands}
+use Rattle.recording.proofs.laws.Rowed.{head-placed}
 
 module _ {P : ℕ → Type 0} (s : List ℕ) (closed : Closed P s) where
   head-telling : P 0 → Telling P (headOf s)
@@ -39,21 +39,18 @@ module _ {P : ℕ → Type 0} (s : List ℕ) (closed : Closed P s) where
       telling-pick (eqb n (length s)) (λ _. read i) λ _. plainly TRAIL (omega arith)
 
 module _ {P : ℕ → Type 0} (s : List ℕ) (closed : Closed P s) (h : P 0) where
-  front-closed : (n : ℕ) → Closed P (take n s)
-  front-closed n at m i j = closed at m i (omega (arith, j, length-take n s))
-
   front-end : (n : ℕ) → P (length (take n s))
   front-end n = let e : 0 + length (take n s) ≡ length (take n s) = omega arith in subst P e (closed 0 (length (take n s)) h (omega (arith, length-take n s)))
 
   record-telling : Telling P (recordOf s)
   unfolding recordAt after
-  record-telling = go (headOf s) (head-telling s closed h) (head-stands s)
+  record-telling = go (headOf s) (head-telling s closed h) (head-placed s 0)
     where
       go : (x : Answer Head) → Telling {A = Head} P x → Accepts (λ f n. (f .body .start ≡ 6) × (n ≡ 6 + f .body .count) × (n ≤ length s)) x
           → Telling {A = Record} P (after x λ f end. means (λ c. record { kind = f .kind; body = f .body; content = c }) (contentAt (f .kind) (take end s) (f .body .start)))
       go (got f end) (read i) stands =
           let here : P (f .body .start) = rw (stands .0) (closed 0 6 h (omega (arith, stands .1, stands .2))) in
-          telling-means _ (content-telling (take end s) (front-closed end) (front-end end) (f .kind) (f .body .start) here)
+          telling-means _ (content-telling (take end s) (front-closed s closed end) (front-end end) (f .kind) (f .body .start) here)
       go x (ended p i) stands = ended p i
       go x (spoilt p i) stands = spoilt p i
       go x (other n i j) stands = other n i j

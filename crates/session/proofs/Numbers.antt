@@ -32,6 +32,14 @@ pub data Row (state code : ℕ) : ℕ → ℕ → Type 0 where
   counts : (Opens code → ⊥) → 0 < state → (Closes code → ⊥) → state < lastNumber → Row state code state (state + 1)
   begins-again : (Opens code → ⊥) → 0 < state → (Closes code → ⊥) → lastNumber ≤ state → Row state code state 1
 
+-- the row of a command that opens a session
+opens-row : {state code number next : ℕ} → Opens code → Row state code number next → (number ≡ 0) × (next ≡ 1)
+opens-row o (opens _) = (refl, refl)
+opens-row o (stays-closed n z) = absurd (n o)
+opens-row o (closes n s c) = absurd (n o)
+opens-row o (counts n s c l) = absurd (n o)
+opens-row o (begins-again n s c l) = absurd (n o)
+
 -- each number is that of its row, and every command falls in one
 module _ (state code : ℕ) where
   pub sends-zero : Opens code → numberSent state code ≡ 0
@@ -160,14 +168,7 @@ some-open (made {codes = codes} {x = x} {code = code} r m) h = of (λ s. some-op
     of was (begins-again o s c l) h = still c (was s)
 
 pub open-some : {codes : List ℕ} {x : Session} → Run codes x → Open codes → 0 < x .number
-open-some (made {x = x} {code = code} r m) (opened o) = of (made-row m)
-  where
-    of : {number next : ℕ} → Row (x .number) code number next → 0 < next
-    of (opens _) = omega arith
-    of (stays-closed n z) = absurd (n o)
-    of (closes n s c) = absurd (n o)
-    of (counts n s c l) = absurd (n o)
-    of (begins-again n s c l) = absurd (n o)
+open-some (made r m) (opened o) = omega (arith, opens-row o (made-row m) .1)
 open-some (made {x = x} {code = code} r m) (still on p) = of (open-some r p) (made-row m)
   where
     of : {number next : ℕ} → 0 < x .number → Row (x .number) code number next → 0 < next
@@ -196,14 +197,12 @@ module _ {codes : List ℕ} {x : Session} (r : Run codes x) {code : ℕ} {said :
       of (begins-again o s c l) e = let f : ⊥ = omega arith in absurd f
 
       back : {number next : ℕ} → (0 < x .number → Open codes) → Row (x .number) code number next → (Open codes → ⊥) ⊎ Opens code → number ≡ 0
-      back was (opens o) e = refl
-      back was (stays-closed o z) e = z
+      back was r (inr p) = opens-row p r .0
+      back was (opens o) (inl shut) = refl
+      back was (stays-closed o z) (inl shut) = z
       back was (closes o s c) (inl shut) = absurd (shut (was s))
       back was (counts o s c l) (inl shut) = absurd (shut (was s))
       back was (begins-again o s c l) (inl shut) = absurd (shut (was s))
-      back was (closes o s c) (inr p) = absurd (o p)
-      back was (counts o s c l) (inr p) = absurd (o p)
-      back was (begins-again o s c l) (inr p) = absurd (o p)
 
 -- after a CloseSession 0 is sent until the next OpenSession, and by that too
 unfoldable pub None-opens : List ℕ → Type 0
@@ -237,21 +236,7 @@ module _ {x : Session} {code : ℕ} {said : ℕ → Said} {old new : List ℕ} {
 
   -- after an OpenSession comes 1, or 0 for another OpenSession
   pub opened-sends : Opens code → ((Opens code′ → ⊥) → u .number ≡ 1) × (Opens code′ → u .number ≡ 0)
-  opened-sends o = (λ o′. sends-next o′ ∙ of (made-row m), λ o′. again o′ (made-row m′))
-    where
-      of : {number next : ℕ} → Row (x .number) code number next → next ≡ 1
-      of (opens _) = refl
-      of (stays-closed n z) = absurd (n o)
-      of (closes n s c) = absurd (n o)
-      of (counts n s c l) = absurd (n o)
-      of (begins-again n s c l) = absurd (n o)
-
-      again : {number next : ℕ} → Opens code′ → Row (t .next .number) code′ number next → number ≡ 0
-      again o′ (opens _) = refl
-      again o′ (stays-closed n z) = absurd (n o′)
-      again o′ (closes n s c) = absurd (n o′)
-      again o′ (counts n s c l) = absurd (n o′)
-      again o′ (begins-again n s c l) = absurd (n o′)
+  opened-sends o = (λ o′. sends-next o′ ∙ opens-row o (made-row m) .1, λ o′. opens-row o′ (made-row m′) .0)
 
   -- in an open session they send n and n + 1, or 4,294,967,294 and 1, where neither opens or closes one; the second may close it too
   pub one-more : {codes : List ℕ} → Run codes x → Open codes → (Opens code → ⊥) → (Closes code → ⊥) → (Opens code′ → ⊥) → (u .number ≡ t .number + 1) ⊎ ((t .number ≡ lastNumber) × (u .number ≡ 1))

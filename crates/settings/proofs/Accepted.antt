@@ -12,6 +12,7 @@ use lib.ListN.{length, length-append}
 use Rattle.layout.specs.Answer.{Told, Answer, got, refused, pick, after, bare}
 use Rattle.layout.specs.Bytes.{Bytes}
 use Rattle.layout.specs.Refusals.{RECORD}
+use Rattle.layout.proofs.laws.Reading.{one-got}
 use Rattle.layout.proofs.laws.Tidied.{zero-one}
 use Rattle.settings.specs.Refusals.{FULL}
 use Rattle.settings.specs.Layout.{Key, Setting, sameKey, holds, Distinct, limit}
@@ -23,7 +24,6 @@ use Rattle.settings.specs.declared.entry.Edition.the-variants as edition
 use Rattle.settings.specs.declared.entry.Entry.{Entry}
 use Rattle.settings.specs.declared.row.Checked.the-variants as checked
 use Rattle.settings.specs.declared.row.Found.the-variants as found
-use Rattle.settings.proofs.Values.{one-got}
 use Rattle.settings.proofs.Spelled.{Spelt, entry-sound}
 use Rattle.settings.proofs.Rows.{not-both, same-true, true-same, forward, ahead, chain-snoc}
 

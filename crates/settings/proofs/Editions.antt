@@ -13,6 +13,7 @@ use Rattle.layout.specs.Answer.{got, refused, pick, after, bare}
 use Rattle.layout.specs.Refusals.{RECORD}
 use Rattle.settings.specs.Refusals.{FULL}
 use Rattle.layout.specs.Bytes.{Bytes}
+use Rattle.layout.proofs.laws.Reading.{parted, picked}
 use Rattle.layout.proofs.laws.Tidied.{zero-one}
 use Rattle.wire.specs.Places.{numAt}
 use Rattle.settings.specs.Layout.{ANY, OWN, knows, Key, Setting, sameKey, holds, limit, IsRow}
@@ -22,7 +23,6 @@ use Rattle.settings.specs.Search.{Chain, stop, link}
 use Rattle.settings.specs.declared.entry.Edition.the-variants as edition
 use Rattle.settings.specs.declared.entry.Entry.{Entry}
 use Rattle.settings.specs.declared.row.Found.the-variants as found
-use Rattle.settings.proofs.Values.{parted, picked}
 use Rattle.settings.proofs.Spelled.{entry-sound}
 use Rattle.settings.proofs.Rows.{same-true, true-same}
 use Rattle.settings.proofs.Accepted.{row-accepted}

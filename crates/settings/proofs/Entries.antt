@@ -12,21 +12,34 @@ use lib.ListN.{length, take, drop}
 use lib.Seq.{take-take}
 use Rattle.layout.specs.Answer.{got, pick, after, spanAt}
 use Rattle.layout.specs.Bytes.{Bytes, bytes, cells}
-use Rattle.layout.specs.Format.{Stands}
-use Rattle.layout.specs.Grammar.{loose, empty}
-use Rattle.layout.proofs.laws.Make.{span-there}
+use Rattle.layout.specs.Format.{Stands, Sound, word}
+use Rattle.layout.specs.Grammar.{loose, empty, Number, num}
+use Rattle.layout.proofs.laws.Make.{number-format, span-there}
+use Rattle.layout.proofs.laws.Meets.{sound-at, complete-at, lies-got}
 use Rattle.layout.proofs.laws.Numbers.{length-bytes, Bytes-take}
-use Rattle.layout.proofs.laws.Reading.{drop-take, cells-take, span-within}
+use Rattle.layout.proofs.laws.Reading.{drop-take, cells-take, span-within, parted, picked, one-got}
 use Rattle.layout.proofs.laws.Words.{fits, stands-none}
-use Rattle.wire.specs.Layout.{paired, shape, Val, Value}
-use Rattle.wire.specs.Places.{numAt, unitsAt, textAt, itemsIn, valueAt, shapeIn}
+use Rattle.wire.specs.Layout.{shape, Val, Value}
+use Rattle.wire.specs.Places.{numAt, textAt, itemsIn, valueAt, shapeIn}
 use Rattle.wire.specs.Property.{between}
 use Rattle.wire.specs.declared.Part.{Part}
+use Rattle.wire.proofs.laws.Formats.{text-format, value-format}
+use Rattle.wire.proofs.laws.Located.{texts, values}
 use Rattle.settings.specs.Layout.{OWN, knows, Serial}
 use Rattle.settings.specs.Entry.{serialAt, typedAt, fieldsAt, restAt, wholeAt, Within}
 use Rattle.settings.specs.declared.entry.Edition.{Edition}
 use Rattle.settings.specs.declared.entry.Entry.{Entry}
-use Rattle.settings.proofs.Values.{text-format, value-format, text-agrees, value-agrees, sound-at, complete-at, number-sound, number-complete, parted, picked, one-got}
+
+-- ── a number by its word ──
+
+pub number-sound : (k : ℕ) (s : List ℕ) → Bytes s → (at v n : ℕ) → numAt k s at ≡ got v n → Stands s at n (bytes k v) × (v < 256 ^ k)
+number-sound k s h at v n e = of (subst (Sound (Number k) s at) e ((number-format k) .sound s h at))
+  where
+    of : Sound (Number k) s at (got v n) → Stands s at n (bytes k v) × (v < 256 ^ k)
+    of (word st (num lt)) = (st, lt)
+
+pub number-complete : (k : ℕ) {s : List ℕ} {at v n : ℕ} → Stands s at n (bytes k v) → v < 256 ^ k → numAt k s at ≡ got v n
+number-complete k st lt = (number-format k) .complete st (num lt)
 
 -- ── bytes that end with the entry ──
 
@@ -47,29 +60,6 @@ items-front s n p h =
 
 -- ── the serial ──
 
--- a string's units end with it
-text-part : (s : List ℕ) (at : ℕ) (p : Part) (n : ℕ) → textAt s at ≡ got p n → p .start + p .count * 2 ≤ n
-unfolding textAt unitsAt
-text-part s at p n e =
-    let a = parted (numAt 1 s at) _ e in
-    go (a .0) (a .1) (eqb (a .0) 0) (a .3)
-  where
-    units : (c q : ℕ) → unitsAt at c s q ≡ got p n → p .start + p .count * 2 ≤ n
-    units c q e =
-        let b = parted (spanAt at (c * 2) s q) _ e in
-        let d = picked (paired (cells 2 (c - 1) (drop q s))) (got (record { start = q; count = c - 1 }) (b .1)) _ (b .3) in
-        let far = span-within at (c * 2) s q (b .1) (sym (b .2)) in
-        let is : p ≡ record { start = q; count = c - 1 } = cc (d .1) in
-        let till : n ≡ b .1 = cc (d .1) in
-        rw (is, till) (omega (arith, far .1))
-
-    go : (c q : ℕ) (b : Bool) → pick b (got (record { start = q; count = 0 }) q) (unitsAt at c s q) ≡ got p n → p .start + p .count * 2 ≤ n
-    go c q true e =
-        let is : p ≡ record { start = q; count = 0 } = cc in
-        let till : n ≡ q = cc in
-        rw (is, till) (omega arith)
-    go c q false e = units c q e
-
 -- the serial of an entry of that kind: the word where it stands, and its part
 pub record SerialRead (b : Bool) (s : List ℕ) (at : ℕ) (p : Part) (n : ℕ) : Type 0 where
   pub word : List ℕ
@@ -80,8 +70,8 @@ pub record SerialRead (b : Bool) (s : List ℕ) (at : ℕ) (p : Part) (n : ℕ) 
 serial-sound : (b : Bool) (s : List ℕ) → Bytes s → (at : ℕ) (p : Part) (n : ℕ) → pick b (textAt s at) (got (record { start = at; count = 0 }) at) ≡ got p n → SerialRead b s at p n
 unfolding cells
 serial-sound true s h at p n e =
-    let a = sound-at text-format (itemsIn 2 s) s at (textAt s at) (text-agrees s at) h p n e in
-    record { word = a .0; there = a .1; reads = a .2; inside = text-part s at p n e }
+    let a = sound-at text-format (itemsIn 2 s) (texts .agrees s at) h e in
+    record { word = a .0; there = a .1; reads = a .2; inside = lies-got (texts .inside s at) e .1 .2 }
 serial-sound false s h at p n e =
     let is : p ≡ record { start = at; count = 0 } = cc in
     let till : n ≡ at = cc in
@@ -91,8 +81,8 @@ serial-complete : (b : Bool) (s : List ℕ) (at n : ℕ) (w us : List ℕ) → S
     → (p : Part) × (pick b (textAt s at) (got (record { start = at; count = 0 }) at) ≡ got p n) × (itemsIn 2 s p ≡ us) × (p .start + p .count * 2 ≤ n)
 unfolding cells
 serial-complete true s at n w us st g =
-    let a = complete-at text-format (itemsIn 2 s) s at (textAt s at) (text-agrees s at) st g in
-    (a .0, a .1, a .2, text-part s at (a .0) n (a .1))
+    let a = complete-at text-format (itemsIn 2 s) (texts .agrees s at) st g in
+    (a .0, a .1, a .2, lies-got (texts .inside s at) (a .1) .1 .2)
 serial-complete false s at n w us st empty =
     let till : at ≡ n = omega (arith, st .till) in
     (record { start = at; count = 0 }, ap (got (record { start = at; count = 0 })) till, refl, omega (arith, till))
@@ -131,7 +121,7 @@ module _ (u : List ℕ) (h : Bytes u) (start kind at : ℕ) where
       let property = number-sound 2 u h (a .1) (b .0) (b .1) (b .2) in
       let serial = serial-sound (eqb kind OWN) u h (b .1) (c .0) (c .1) (c .2) in
       let type = number-sound 2 u h (c .1) (d .0) (d .1) (d .2) in
-      let value = sound-at (value-format (d .0)) (shapeIn (shape (d .0)) u) u (d .1) (valueAt (d .0) u (d .1)) (value-agrees (d .0) u (d .1)) h (f .0) (f .1) (f .2) in
+      let value = sound-at (value-format (d .0)) (shapeIn (shape (d .0)) u) ((values (d .0)) .agrees u (d .1)) h (f .2) in
       let p : a .1 ≡ at + 4 = ends 4 (a .0) (vendor .0) in
       let q : b .1 ≡ at + 6 = omega (arith, p, ends 2 (b .0) (property .0)) in
       let y : Entry = record { start = start; kind = kind; vendor = a .0; property = b .0; serial = c .0; code = d .0; value = between (d .1) (f .1) } in
@@ -162,7 +152,7 @@ module _ (u : List ℕ) (start kind at : ℕ) where
   unfolding fieldsAt typedAt serialAt after
   fields-complete vendor property type p q mid r n sw us vw v sv lv sp lp ss gs st lt sx gx =
       let serial = serial-complete (eqb kind OWN) u q mid sw us ss gs in
-      let value = complete-at (value-format type) (shapeIn (shape type) u) u r (valueAt type u r) (value-agrees type u r) sx gx in
+      let value = complete-at (value-format type) (shapeIn (shape type) u) ((values type) .agrees u r) sx gx in
       (serial .0, serial .2, serial .3, rw (number-complete 4 sv lv, number-complete 2 sp lp, serial .1, number-complete 2 st lt, value .1))
 
 -- ── the whole entry ──

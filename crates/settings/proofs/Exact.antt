@@ -15,7 +15,8 @@ use Rattle.layout.specs.Answer.{Answer, got, refused, pick, after, means}
 use Rattle.layout.specs.Bytes.{Bytes, bytes}
 use Rattle.layout.specs.Format.{Stands}
 use Rattle.layout.proofs.laws.Numbers.{length-bytes}
-use Rattle.layout.proofs.laws.Words.{split}
+use Rattle.layout.proofs.laws.Reading.{parted, picked, one-got}
+use Rattle.layout.proofs.laws.Words.{split, self}
 use Rattle.layout.proofs.laws.Tidied.{zero-one}
 use Rattle.settings.specs.Layout.{Key, Setting, sameKey, holds, Distinct, limit, IsEntry, is-entry, Entries, none, one-more, IsRow}
 use Rattle.settings.specs.Entry.{wholeAt, isTidy, tidyAt, entryAt, aloneIn, keyIn, settingIn}
@@ -24,7 +25,6 @@ use Rattle.settings.specs.Search.{Chain, stop, link}
 use Rattle.settings.specs.Store.{entryWord, rowWord, settingsOf, settingOf}
 use Rattle.settings.specs.declared.entry.Edition.{Edition}
 use Rattle.settings.specs.declared.entry.Entry.{Entry}
-use Rattle.settings.proofs.Values.{self, parted, picked, one-got}
 use Rattle.settings.proofs.Spelled.{entry-sound, entry-complete, entry-word}
 use Rattle.settings.proofs.Rows.{row-next, row-end}
 use Rattle.settings.proofs.Accepted.{same-sym, row-accepted}

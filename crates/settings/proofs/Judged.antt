@@ -11,15 +11,16 @@ use borrow.Author.Tests.{eqb-true, eqb-false}
 use lib.Dec.{eqb, lit≤}
 use lib.ListN.{length, take, drop, length-drop}
 use lib.Seq.{take-take, take-all, drop-drop, length-take-le}
-use Rattle.layout.specs.Answer.{Told, Answer, got, refused, pick, after, endAt, bare, spanAt, fieldAt}
+use Rattle.layout.specs.Answer.{Told, Answer, got, refused, pick, after, endAt, bare, spanAt}
 use Rattle.layout.specs.Bytes.{Bytes, bytes, number}
 use Rattle.layout.specs.Fault.{Begins}
 use Rattle.layout.specs.Format.{Stands}
 use Rattle.layout.specs.Grammar as grammar
 use Rattle.layout.specs.Grammar.{loose, tidy, both, as′}
 use Rattle.layout.specs.Refusals.{TRAIL, RECORD}
-use Rattle.layout.proofs.laws.Make.{Spanned, there, short, spanned, span-there}
+use Rattle.layout.proofs.laws.Make.{Spanned, there, short, spanned}
 use Rattle.layout.proofs.laws.Numbers.{Bytes-take}
+use Rattle.layout.proofs.laws.Reading.{one-got, field-there}
 use Rattle.layout.proofs.laws.Words.{join, split, fits}
 use Rattle.layout.proofs.laws.Tidied.{zero-one}
 use Rattle.wire.specs.Places.{numAt, itemsIn}
@@ -29,8 +30,7 @@ use Rattle.wire.proofs.laws.Judged.{goes-on, enough, least-row, field-row}
 use Rattle.settings.specs.Layout.{OWN, knows, Setting, Serial, Content, IsEntry, is-entry}
 use Rattle.settings.specs.Entry.{fieldsAt, restAt, wholeAt, isTidy, tidyAt, entryAt, settingIn, saysEntry}
 use Rattle.settings.specs.Refused.{contentIn, FrontTests, ContentSays, in-a-field, bytes-left, untidy, accepted, EntrySays}
-use Rattle.settings.proofs.Entries.{stands-in, stands-out, ends, fields-sound, fields-complete, read-whole}
-use Rattle.settings.proofs.Values.{number-sound, number-complete, one-got}
+use Rattle.settings.proofs.Entries.{stands-in, stands-out, ends, fields-sound, fields-complete, read-whole, number-sound, number-complete}
 use Rattle.settings.proofs.Spelled.{split-number, entry-sound, entry-complete}
 use Rattle.settings.specs.declared.entry.Edition.{Edition}
 use Rattle.settings.specs.declared.entry.Entry.{Entry}
@@ -40,10 +40,6 @@ use Rattle.settings.specs.declared.entry.ReadEntry.{ReadEntry}
 known-row : {A : Type 0} {Q : A → Type 0} (b : Bool) (x : A) {y : A} → (b ≡ true → Q x) → (b ≡ false gives y else Q) (pick b x y)
 known-row true x f = fails (λ e. zero-one (cc)) (f refl)
 known-row false x f = holds refl
-
-num-there : (k : ℕ) (s : List ℕ) (p : ℕ) → k ≤ length s - p → numAt k s p ≡ got (number (take k (drop p s))) (p + k)
-unfolding fieldAt after
-num-there k s p h = rw (span-there p k s p h)
 
 -- ── the front ──
 
@@ -213,9 +209,9 @@ module _ (e : Edition) (s : List ℕ) (h : Bytes s) (at : ℕ) where
       let d = drop at s in
       let size : length d ≡ length s - at = length-drop at s in
       let on = drop-drop 4 at s in
-      let len = number-sound 4 s h at (announced d) (at + 4) (num-there 4 s at (omega (arith, b .whole, b .six))) in
+      let len = number-sound 4 s h at (announced d) (at + 4) (field-there 4 number s at (omega (arith, b .whole, b .six))) in
       let kind-is : number (take 2 (drop (at + 4) s)) ≡ kindIn d = ap (λ w. number (take 2 w)) (sym on) in
-      let kind-read : numAt 2 s (at + 4) ≡ got (kindIn d) (at + 6) = num-there 2 s (at + 4) (omega (arith, b .whole, b .six)) ∙ ap (λ k. got k (at + 4 + 2)) kind-is ∙ ap (got (kindIn d)) (omega arith) in
+      let kind-read : numAt 2 s (at + 4) ≡ got (kindIn d) (at + 6) = field-there 2 number s (at + 4) (omega (arith, b .whole, b .six)) ∙ ap (λ k. got k (at + 4 + 2)) kind-is ∙ ap (got (kindIn d)) (omega arith) in
       let kind = number-sound 2 s h (at + 4) (kindIn d) (at + 6) kind-read in
       subst (λ y. ContentSays at d (after y λ z n. tidyAt s z n)) (sym (b .is))
       (content-judged e s h at (announced d) (kindIn d) (b .known) (b .six) (omega (arith, b .whole, b .six)) (len .0) (len .1) (kind .0) (kind .1) d (ap (take (announced d - 4)) on) refl)

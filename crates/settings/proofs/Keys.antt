@@ -18,7 +18,7 @@ use Rattle.layout.specs.Written.{says, no, Wrote, Put, saysWritten}
 use Rattle.layout.specs.declared.Written.{Written}
 use Rattle.layout.specs.declared.Written.the-variants as written
 use Rattle.layout.proofs.laws.Did.{whole, Kept, not-due, too-short, kept}
-use Rattle.layout.proofs.laws.Make.{repeat-length}
+use Rattle.layout.proofs.laws.Make.{repeat-length, tested}
 use Rattle.layout.proofs.laws.Numbers.{length-bytes}
 use Rattle.layout.proofs.laws.Tidied.{zero-one}
 use Rattle.layout.proofs.laws.Writing.{put-front}
@@ -26,6 +26,7 @@ use Rattle.wire.specs.Codecs.{text}
 use Rattle.wire.specs.Given.{textSaid}
 use Rattle.wire.specs.Layout.{pairs, paired, Text}
 use Rattle.wire.specs.Tidy.{spelled}
+use Rattle.wire.proofs.laws.Formats.{text-format}
 use Rattle.wire.proofs.laws.Numbered.{given-size}
 use Rattle.settings.specs.Layout.{OWN, Serial, Key, Keyed, sameKey, holds}
 use Rattle.settings.specs.Entry.{keyIn}
@@ -34,7 +35,6 @@ use Rattle.settings.specs.Search.{Chain, stop, link, Places, Spells, wor
 use Rattle.settings.specs.declared.entry.Edition.{Edition}
 use Rattle.settings.specs.declared.entry.Edition.the-variants as edition
 use Rattle.settings.specs.declared.entry.Entry.{Entry}
-use Rattle.settings.proofs.Values.{text-format}
 use Rattle.settings.proofs.Spelled.{entry-sound}
 use Rattle.settings.proofs.Rows.{same-true, new-place}
 
@@ -64,18 +64,11 @@ said-text us bs e = go (paired us) refl (leb (length us) 254) refl e
     go true p false l e = zero-one (cc)
     go false p c l e = zero-one (cc)
 
-paired-of : (us : List ℕ) → T (paired us) → paired us ≡ true
-paired-of us p = go (paired us) p
-  where
-    go : (b : Bool) → T b → b ≡ true
-    go true t = refl
-    go false t = absurd t
-
 text-said : (w us : List ℕ) → Text tidy w us → textSaid us ≡ says (text .write us)
 unfolding textSaid pairs
 text-said w us (lead {a = zero} g e empty) = refl
 text-said w us (lead {a = suc m} (grammar.num f) e (such p (as′ (both {u = x} {a} q k)))) =
-    rw (paired-of a p, le-leb (length a) 254 (omega (arith, repeat-length (Number 2) tidy m x a q, f)))
+    rw (tested (paired a) p, le-leb (length a) 254 (omega (arith, repeat-length (Number 2) tidy m x a q, f)))
 
 -- ── the words of keys ──
 

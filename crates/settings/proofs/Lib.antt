@@ -1,4 +1,3 @@
-pub mod Values
 pub mod Tidy
 pub mod Ahead
 pub mod Entries

@@ -14,7 +14,9 @@ use Rattle.layout.specs.Answer.{Told, got, refused, pick, after, bare}
 use Rattle.layout.specs.Bytes.{Bytes}
 use Rattle.layout.specs.Grammar.{tidy}
 use Rattle.layout.specs.Refusals.{RECORD}
+use Rattle.layout.proofs.laws.Reading.{one-got}
 use Rattle.layout.proofs.laws.Tidied.{zero-one}
+use Rattle.layout.proofs.laws.Words.{no-bytes}
 use Rattle.wire.specs.Places.{numAt}
 use Rattle.settings.specs.Refusals.{FULL}
 use Rattle.settings.specs.Layout.{Key, Keyed, key-discrete, decided, sameKey, holds, limit}
@@ -24,8 +26,7 @@ use Rattle.settings.specs.Search.{Chain, stop, link, Chained, placeOf, S
 use Rattle.settings.specs.declared.entry.Edition.{Edition}
 use Rattle.settings.specs.declared.entry.Entry.{Entry}
 use Rattle.settings.specs.declared.row.Checked.the-variants as checked
-use Rattle.settings.proofs.Values.{number-complete, one-got}
-use Rattle.settings.proofs.Entries.{read-within}
+use Rattle.settings.proofs.Entries.{read-within, number-complete}
 use Rattle.settings.proofs.Spelled.{keyCodec, key-format, Spelt, entry-sound}
 
 pub not-both : {b : Bool} → b ≡ true → b ≡ false → ⊥
@@ -45,13 +46,9 @@ same-bytes s key at k e l = sym (getD-drop at s k 0) ∙ sym (getD-take (length 
 pub none-same : (s key : List ℕ) (at : ℕ) → length s < at
     → (eqb (length key) 0 ≡ true → take (length key) (drop at s) ≡ key) × (take (length key) (drop at s) ≡ key → eqb (length key) 0 ≡ true)
 none-same s key at past = (
-  λ e. let none : length key ≡ 0 = eqb-true (length key) 0 e in rw none (sym (empty key none)),
+  λ e. let none : length key ≡ 0 = eqb-true (length key) 0 e in rw none (sym (no-bytes key (omega arith))),
   λ e. eq-eqb (length key) 0 (omega (arith, ap length e, length-take (length key) (drop at s), length-drop at s)),
 )
-  where
-    empty : (w : List ℕ) → length w ≡ 0 → w ≡ []
-    empty [] e = refl
-    empty (b ∷ w) e = let z : ⊥ = omega (arith, e) in absurd z
 
 pub short-bytes : (s key : List ℕ) (at : ℕ) → take (length key) (drop at s) ≡ key → length s - at < length key → ⊥
 short-bytes s key at e l = omega (arith, ap length e, length-take (length key) (drop at s), length-drop at s)

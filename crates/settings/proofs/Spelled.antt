@@ -18,18 +18,19 @@ use Rattle.layout.specs.Grammar as grammar
 use Rattle.layout.specs.Grammar.{loose, tidy, empty, both, as′}
 use Rattle.layout.proofs.laws.Make.{nothing-format, number-format, then-format, as-format}
 use Rattle.layout.proofs.laws.Numbers.{length-bytes}
-use Rattle.layout.proofs.laws.Words.{join, split, fits}
+use Rattle.layout.proofs.laws.Reading.{parted, picked, one-got}
+use Rattle.layout.proofs.laws.Words.{join, split, fits, self}
 use Rattle.layout.proofs.laws.Tidied.{zero-one}
 use Rattle.wire.specs.Codecs.{text, value}
 use Rattle.wire.specs.Layout.{STR, Val, Value}
 use Rattle.wire.specs.Places.{itemsIn}
 use Rattle.wire.specs.Property.{between, bytesOf, slotIn}
+use Rattle.wire.proofs.laws.Formats.{text-format, value-format}
 use Rattle.settings.specs.Layout.{OWN, knows, Key, Setting, Serial, keyFrom, Keyed, settingFrom, Content, IsEntry, is-entry}
 use Rattle.settings.specs.Entry.{fieldsAt, wholeAt, tidyText, serialSlot, serialTidy, valueTidy, isTidy, tidyAt, entryAt, keyIn, settingIn}
 use Rattle.settings.specs.Store.{serialWord, keyWord, contentWord, entryWord}
 use Rattle.settings.specs.declared.entry.Edition.{Edition}
 use Rattle.settings.specs.declared.entry.Entry.{Entry}
-use Rattle.settings.proofs.Values.{text-format, value-format, self, parted, picked, one-got}
 use Rattle.settings.proofs.Tidy.{text-tidy, tidy-text, value-tidy, tidy-value}
 use Rattle.settings.proofs.Entries.{stands-in, stands-out, items-front, ends, fields-complete, Read, whole-read, read-whole}
 

@@ -11,6 +11,7 @@ use lib.ListN.{length}
 use Rattle.layout.specs.Answer.{Answer, got, refused, pick, means, bare}
 use Rattle.layout.specs.Bytes.{Bytes}
 use Rattle.layout.specs.Written.{says, no}
+use Rattle.layout.proofs.laws.Reading.{one-got}
 use Rattle.layout.proofs.laws.Tidied.{zero-one}
 use Rattle.settings.specs.Refusals.{FULL}
 use Rattle.settings.specs.Layout.{ANY, OWN, Key, Setting, sameKey, holds, IsEntry, Entries, one-more, IsRow}
@@ -23,7 +24,6 @@ use Rattle.settings.specs.declared.entry.Edition.the-variants as edition
 use Rattle.settings.specs.declared.entry.Entry.{Entry}
 use Rattle.settings.specs.declared.row.Found.{Found}
 use Rattle.settings.specs.declared.row.Found.the-variants as found
-use Rattle.settings.proofs.Values.{one-got}
 use Rattle.settings.proofs.Spelled.{entry-word}
 use Rattle.settings.proofs.Rows.{false-same}
 use Rattle.settings.proofs.Storing.{alone-spelt, alone-word}

@@ -6,20 +6,22 @@ use mathlib.Core.List.{List, [], _∷_, _++_, append-assoc}
 use mathlib.Core.Option.{Option, none}
 use Prim.Native.Nat.{ℕ, _+_, _-_, _≤_, _<_}
 use native.Mathlib.Omega.{arith}
-use borrow.Author.Tests.{lt-ltb, le-ltb, ltb-false}
+use borrow.Author.Tests.{lt-ltb, le-ltb}
 use lib.Dec.{ltb, leb}
 use lib.ListN.{length, take, drop, length-append, length-drop, length-map, take-append-drop, drop-of-length-le}
 use lib.Seq.{take-all, take-length, take-add, drop-drop, length-take-le}
 use Rattle.layout.specs.Answer.{Told, Answer, got, refused, pick, after, means, bare, fieldAt}
 use Rattle.layout.specs.Bytes.{Bytes}
 use Rattle.layout.specs.Grammar.{tidy}
-use Rattle.layout.specs.Refusals.{TRAIL, ROOM}
+use Rattle.layout.specs.Refusals.{ROOM}
 use Rattle.layout.specs.Written.{says, no, Wrote, Put, roomed}
 use Rattle.layout.proofs.laws.Make.{span-short}
+use Rattle.layout.proofs.laws.Reading.{parted, picked, one-got}
 use Rattle.layout.proofs.laws.Stored.{first, more}
 use Rattle.layout.proofs.laws.Tidied.{zero-one}
 use Rattle.layout.proofs.laws.Writing.{no-room, done, refusal}
 use Rattle.wire.specs.Places.{filledAt}
+use Rattle.wire.proofs.laws.Located.{filled-end}
 use Rattle.settings.specs.Refusals.{FULL}
 use Rattle.settings.specs.Layout.{Keyed, Setting, sameKey, holds, limit}
 use Rattle.settings.specs.Entry.{wholeAt, isTidy, tidyAt, entryAt, aloneIn, keyIn, settingIn}
@@ -29,7 +31,6 @@ use Rattle.settings.specs.Store.{put, entryWord, rowWord, isFull, putSai
 use Rattle.settings.specs.declared.entry.Edition.{Edition}
 use Rattle.settings.specs.declared.entry.Entry.{Entry}
 use Rattle.settings.specs.declared.row.Checked.the-variants as checked
-use Rattle.settings.proofs.Values.{parted, picked, one-got}
 use Rattle.settings.proofs.Spelled.{Spelt, entry-sound, entry-word}
 use Rattle.settings.proofs.Rows.{forward, held-place, new-place}
 use Rattle.settings.proofs.Accepted.{Known, known, First, at-place, nowhere, first-place}
@@ -126,14 +127,6 @@ module _ (e : Edition) (s : List ℕ) (h : Bytes s) where
             ap (λ w. (w ++ entryWord r) ++ c) two ∙ ap (λ w. w ++ c) (append-assoc a b (entryWord r)) ∙ append-assoc a (b ++ entryWord r) c ∙ ap (λ w. a ++ w) on
 
 -- ── an entry alone in its bytes ──
-
-filled-end : (w : List ℕ) (n p : ℕ) → filledAt w n ≡ got tt p → length w ≤ n
-unfolding filledAt
-filled-end w n p e = go (ltb n (length w)) refl e
-  where
-    go : (b : Bool) → ltb n (length w) ≡ b → _≡_ {A = Answer (Unit {0})} (pick b (refused (bare TRAIL)) (got tt n)) (got tt p) → length w ≤ n
-    go true i e = zero-one (cc)
-    go false i e = ltb-false n (length w) i
 
 module _ (e : Edition) (w : List ℕ) (h : Bytes w) (x : Entry) (n : ℕ) (f : aloneIn e w ≡ got x n) where
   pub alone-entry : (entryAt e w 0 ≡ got x n) × (n ≡ length w)

@@ -17,9 +17,9 @@ use Rattle.layout.specs.Grammar.{loose, tidy, empty, Number, lead, such, as′,
 use Rattle.layout.proofs.laws.Make.{cells-size, repeat-length, repeat-format, number-format}
 use Rattle.layout.proofs.laws.Single.{single-number, single-repeat}
 use Rattle.layout.proofs.laws.Tidied.{zero-one}
-use Rattle.wire.specs.Layout.{text-count, Text, STR, string, shape, Val, Shaped, Value}
+use Rattle.wire.specs.Layout.{text-count, Text, STR, string, Val, Shaped, Value}
+use Rattle.wire.proofs.laws.Formats.{value-single}
 use Rattle.settings.specs.Entry.{tidyText}
-use Rattle.settings.proofs.Values.{not-string, single-value}
 
 -- what the test comes to, of a string of suc m units, the last of them l
 module _ (m l : ℕ) (x : List ℕ) (few : suc m < 256 ^ 1) (size : length x ≡ m * 2) where
@@ -87,7 +87,7 @@ value-tidy t w v g e = go (eqb t STR) refl e
     go true i e =
         let is : t ≡ STR = eqb-true t STR i in
         subst (λ n. Value n tidy w v) (sym is) (string-tidy w v (subst (λ n. Value n loose w v) is g) e)
-    go false i e = single-value (shape t) (not-string t (eqb-false t STR i)) w v g
+    go false i e = value-single t (eqb-false t STR i) w v g
 
 pub tidy-value : (t : ℕ) (w : List ℕ) (v : Val) → Value t tidy w v → valueTest t w ≡ true
 tidy-value t w v g = go (eqb t STR) refl

@@ -7,14 +7,14 @@ use mathlib.Core.List.{List, [], _∷_, _++_}
 use Prim.Native.Nat.{ℕ, zero, suc, _+_, _-_, _≤_}
 use native.Mathlib.Omega.{arith}
 use lib.Dec.{leb, ltb, eqb}
-use lib.ListN.{length, take, length-take}
+use lib.ListN.{length, take}
 use Rattle.layout.specs.Answer.{Told, Answer, got, refused, pick, means, bare}
 use Rattle.layout.specs.Bytes.{number}
 use Rattle.layout.specs.Refusals.{TRAIL, RECORD}
 use Rattle.layout.specs.Written.{says, no}
 use Rattle.layout.proofs.laws.Tidied.{zero-one}
 use Rattle.layout.specs.Told.{PlacedExactly, Inside}
-use Rattle.layout.proofs.laws.Told.{Telling, read, ended, spoilt, other, telling-same, plainly, Closed, Everywhere, everywhere, up-to, telling-pick, telling-after, telling-span, telling-field, telling-exactly, telling-inside}
+use Rattle.layout.proofs.laws.Told.{Telling, read, ended, spoilt, other, telling-same, plainly, Closed, Everywhere, everywhere, up-to, front-closed, telling-pick, telling-after, telling-span, telling-field, telling-exactly, telling-inside}
 use Rattle.wire.specs.Layout.{shape}
 use Rattle.wire.specs.Places.{filledAt}
 use Rattle.wire.proofs.laws.Told.{text-telling, shape-telling}
@@ -42,15 +42,12 @@ module _ {P : ℕ → Type 0} (s : List ℕ) (closed : Closed P s) where
       telling-after (shape-telling s closed (shape type) d l) λ v n m. read m
 
 module _ {P : ℕ → Type 0} (s : List ℕ) (closed : Closed P s) where
-  front-closed : (n : ℕ) → Closed P (take n s)
-  front-closed n at m i j = closed at m i (omega (arith, j, length-take n s))
-
   rest-telling : (start len kind at : ℕ) → P at → Telling P (restAt start len kind s at)
   unfolding restAt
   rest-telling start len kind at h =
       telling-pick (leb 6 len)
       (λ _. telling-after (telling-span s closed at (len - 6) at h h) λ _ end i.
-      telling-after (fields-telling (take end s) (front-closed end) start kind at h) λ x n j.
+      telling-after (fields-telling (take end s) (front-closed s closed end) start kind at h) λ x n j.
       telling-pick (eqb n end) (λ _. read j) λ _. plainly TRAIL (omega arith))
       λ _. plainly RECORD (omega arith)
 

@@ -41,10 +41,6 @@ module _ (ps : List ℕ) (has : ℕ → Bool) (k p : ℕ) where
   unfolding rest kidsIn
   rest-none h = let m : length ps - k ≡ 0 = omega arith in rw m
 
-pub none-left : (l : List ℕ) → length l ≡ 0 → l ≡ []
-none-left [] e = refl
-none-left (x ∷ l) e = absurd (omega arith)
-
 pub rest-start : (ps : List ℕ) (has : ℕ → Bool) (p : ℕ) → rest ps has (p + 1) p ≡ kids ps has p
 unfolding rest kids
 rest-start ps has p = rw (add-one p)

@@ -15,6 +15,7 @@ use lib.Seq.{drop-cons}
 use Rattle.layout.specs.Answer.{Told, got, refused, bare, pick}
 use Rattle.layout.proofs.laws.Reading.{follow, stop}
 use Rattle.layout.specs.Refusals.{TABLE}
+use Rattle.layout.proofs.laws.Tidied.{zero-one}
 use Rattle.tree.specs.Facts.{Ruled, Rising, Kept}
 use Rattle.tree.specs.Table.{Table, parent, kept, keptFrom, parentsOk, risesFrom, startOf, endOf, tableOk, nameAt, namesFrom, tableAt}
 use Rattle.tree.specs.Way.{within}
@@ -146,4 +147,4 @@ accepted t {n} e = kept-table t (go (tableOk t) e)
   where
     go : (b : Bool) → got tt n ≡ pick b (namesFrom 0 (length (t .ends)) (t .ends) (t .names)) (refused (bare TABLE)) → b ≡ true
     go true e = refl
-    go false e = absurd (let z : _≡_ {A = ℕ} 0 1 = cc in omega arith)
+    go false e = zero-one (cc)

@@ -6,7 +6,7 @@ use Rattle.layout.specs.Faithful.{Faithful}
 use Rattle.layout.proofs.laws.Meets.{faithful}
 use Rattle.wire.specs.Layout.{Text, Value, Row, device, object, storage, Property}
 use Rattle.wire.specs.Codecs.{text, value, row, property}
-use Rattle.wire.proofs.Formats.{text-format, value-format, row-format, property-format}
+use Rattle.wire.proofs.laws.Formats.{text-format, value-format, row-format, property-format}
 
 pub texts : Faithful Text text
 texts = faithful text-format

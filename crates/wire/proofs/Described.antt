@@ -13,8 +13,8 @@ use Rattle.layout.specs.Answer.{Answer, got, refused, after, means, pick}
 use Rattle.layout.specs.Codec.{Codec, numbered, _and_, cons-write, repeated, through}
 use Rattle.layout.specs.Placed.{Inside, Placed, Lies, lies, nowhere}
 use Rattle.layout.proofs.laws.Local.{repeated-local, alone}
-use Rattle.layout.proofs.laws.Meets.{lies-after}
-use Rattle.layout.proofs.laws.Reading.{means-means, means-same}
+use Rattle.layout.proofs.laws.Meets.{lies-got, lies-after}
+use Rattle.layout.proofs.laws.Reading.{unmeant, means-means, means-same}
 use Rattle.layout.proofs.laws.Tidied.{zero-one}
 use Rattle.wire.specs.Description.{PropInfo}
 use Rattle.wire.specs.declared.property.Slot.{Slot}
@@ -24,7 +24,7 @@ use Rattle.wire.specs.Codecs.{value, row, three, listed, formed, form, p
 use Rattle.wire.specs.Places.{numAt, Located, valueAt, shapeIn, shapeParts}
 use Rattle.wire.specs.Property.{between, slotAt, valuesAt, rangeAt, listAt, formAt, propertyAt, slotIn, valuesIn, formIn, propertyIn, enableAt}
 use Rattle.wire.specs.Tidy.{rowWord, types}
-use Rattle.wire.proofs.Located.{values, num-lies}
+use Rattle.wire.proofs.laws.Located.{values, num-lies}
 use Rattle.wire.proofs.Locals.{value-local}
 use Rattle.wire.proofs.RowWords.{types-one}
 
@@ -157,19 +157,12 @@ value-from t s at v n e = go (valueAt t s at) ((values t) .inside s at) ((values
 -- a value that is read, by its place: what it means, and that its parts lie within
 pub located-is : (t : ℕ) (s : List ℕ) (at : ℕ) (v : Val) (n : ℕ) → (value t) .read s at ≡ got v n
     → (l : Located) × (valueAt t s at ≡ got l n) × (shapeIn (shape t) s l ≡ v) × Inside at n (shapeParts (shape t) l)
-unfolding means
-located-is t s at v n e = go (valueAt t s at) ((values t) .inside s at) ((values t) .agrees s at ∙ e)
-  where
-    go : (x : Answer Located) → Lies (shapeParts (shape t)) at x → means (shapeIn (shape t) s) x ≡ got v n → (l : Located) × (x ≡ got l n) × (shapeIn (shape t) s l ≡ v) × Inside at n (shapeParts (shape t) l)
-    go (got l m) (lies l′ m′ h i) e = let f : m ≡ n = cc in (l, ap (got l) f, cc, rw f at i)
-    go (refused u) nowhere e = zero-one (cc)
+located-is t s at v n e =
+    let (l, read, is) = unmeant (shapeIn (shape t) s) (valueAt t s at) ((values t) .agrees s at ∙ e) in
+    (l, read, is, lies-got ((values t) .inside s at) read .1)
 
 pub located-from : (t : ℕ) (s : List ℕ) (at : ℕ) (l : Located) (n : ℕ) → got l n ≡ valueAt t s at → at ≤ n
-located-from t s at l n e = go (valueAt t s at) ((values t) .inside s at) e
-  where
-    go : (x : Answer Located) → Lies (shapeParts (shape t)) at x → got l n ≡ x → at ≤ n
-    go (got k m) (lies k′ m′ h i) e = let f : n ≡ m = cc in omega arith
-    go (refused u) nowhere e = zero-one (cc)
+located-from t s at l n e = lies-got ((values t) .inside s at) (sym e) .0
 
 pub values-from : (t m : ℕ) (s : List ℕ) (at : ℕ) (vs : List Val) (n : ℕ) → (repeated m (value t)) .read s at ≡ got vs n → at ≤ n
 unfolding means after

@@ -17,17 +17,15 @@ use Rattle.layout.proofs.laws.Decided.{refuses-exactly}
 use Rattle.layout.proofs.laws.Final.{end-not-text, Bytes-append}
 use Rattle.layout.proofs.laws.Meets.{reads-exactly}
 use Rattle.layout.proofs.laws.Make.{Spanned, there, short, spanned, span-there}
+use Rattle.layout.proofs.laws.Tidied.{zero-one}
 use Rattle.wire.specs.declared.Part.{Part}
 use Rattle.wire.specs.Layout.{pairs, paired, Text, Shape, one, many, string, undef, shape, Val, Row}
 use Rattle.wire.specs.Codecs.{text}
 use Rattle.wire.specs.Faults.{TextFault, ShapedFault, ValueFault, RowFault}
 use Rattle.wire.specs.Places.{itemsIn, textAt, unitsAt}
-use Rattle.wire.proofs.Formats.{text-format}
-use Rattle.wire.proofs.Located.{texts}
+use Rattle.wire.proofs.laws.Formats.{text-format}
+use Rattle.wire.proofs.laws.Located.{texts}
 use Rattle.wire.proofs.Refusals.{text-faults, texts as decided}
-
-zero-one : {A : Type 0} → _≡_ {A = ℕ} 0 1 → A
-zero-one e = let f : ⊥ = omega arith in absurd f
 
 true-false : true ≡ false → ⊥
 true-false e = subst T e tt

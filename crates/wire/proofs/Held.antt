@@ -1,7 +1,7 @@
 -- The demand of a property's description, as End states it, settles every part: in whatever answer meets it, each part is as a whole a word with the
 -- reading's own value. So no reader whose parts are too short, too long or of another number meets it.
 -- Assumes nothing.
-use mathlib.Core.Path.{_≡_, refl, subst}
+use mathlib.Core.Path.{_≡_, refl}
 use mathlib.Core.Bool.{Bool, true, false}
 use mathlib.Core.List.{List, [], _∷_}
 use Prim.Native.Nat.{ℕ, zero, suc, _-_, _≤_, _+_}
@@ -14,14 +14,14 @@ use Rattle.layout.specs.Answer.{Answer, got, refused, pick}
 use Rattle.layout.specs.Bytes.{Bytes}
 use Rattle.layout.specs.Codec.{Codec}
 use Rattle.layout.specs.Faithful.{Kept}
-use Rattle.layout.specs.Format.{Format, Sound, word}
+use Rattle.layout.specs.Format.{Format}
 use Rattle.layout.specs.Grammar.{loose, Grammar, empty, both, lead, as′, Repeat}
-use Rattle.layout.specs.Placed.{Inside, Lies, lies}
+use Rattle.layout.specs.Placed.{Inside}
 use Rattle.layout.proofs.laws.Make.{repeat-format}
 use Rattle.layout.proofs.laws.Numbers.{Bytes-take, Bytes-drop}
 use Rattle.layout.proofs.laws.Tidied.{zero-one}
 use Rattle.layout.proofs.laws.Words.{fits, part-there}
-use Rattle.layout.proofs.laws.Meets.{kept}
+use Rattle.layout.proofs.laws.Meets.{read-word, lies-got, kept}
 use Rattle.wire.specs.Description.{PropInfo}
 use Rattle.wire.specs.declared.property.Slot.{Slot}
 use Rattle.wire.specs.Description as placed
@@ -30,21 +30,19 @@ use Rattle.wire.specs.Codecs.{property}
 use Rattle.wire.specs.Property.{bytesOf, filling, none-of, slotIn, valuesIn, formIn, propertyIn, propertyAt}
 use Rattle.wire.specs.Worded.{Worded, WordedForm, a-range, a-list, absent, WordedProperty}
 use Rattle.wire.proofs.Described.{property-parts, form-parts, properties}
-use Rattle.wire.proofs.Formats.{value-format, property-format}
+use Rattle.wire.proofs.laws.Formats.{value-format, property-format}
 
 -- ── words in their places ──
 
 -- what is read at a place is a word from there up to the place after it
 pub worded : {R : Type 0} {G : Grammar R} {F : Codec R} → Format G F → (s : List ℕ) → Bytes s → (at : ℕ) → at ≤ length s → (r : R) (n : ℕ) → F .read s at ≡ got r n
     → Worded G s (record { start = at; len = n - at }) r × (at ≤ n) × (n ≤ length s)
-worded {R} {G} {F} f s h at k r n e = of (subst (Sound G s at) e (f .sound s h at))
-  where
-    of : Sound G s at (got r n) → Worded G s (record { start = at; len = n - at }) r × (at ≤ n) × (n ≤ length s)
-    of (word {w} st g) =
-        let l : n - at ≡ length w = omega (arith, st .till) in
-        let ends : n ≤ length s = omega (arith, fits st, st .till) in
-        let is : take (n - at) (drop at s) ≡ w = rw l (st .is) in
-        (record { within = omega (arith, st .till); reads = rw is g }, omega (arith, st .till), ends)
+worded f s h at k r n e =
+    let (w, st, g) = read-word f h e in
+    let l : n - at ≡ length w = omega (arith, st .till) in
+    let ends : n ≤ length s = omega (arith, fits st, st .till) in
+    let is : take (n - at) (drop at s) ≡ w = rw l (st .is) in
+    (record { within = omega (arith, st .till); reads = rw is g }, omega (arith, st .till), ends)
 
 -- and a part that is a word is read at its start, up to its end
 pub read-back : {R : Type 0} {G : Grammar R} {F : Codec R} → Format G F → {s : List ℕ} {p : Slot} {r : R} → Worded G s p r → F .read s (p .start) ≡ got r (p .start + p .len)
@@ -124,10 +122,9 @@ module _ (s : List ℕ) (h : Bytes s) where
   settled there y k x n e =
       let a = k .exact .accepts x n e in
       let w = reading-spelled there (take n s) (propertyIn s x) (a .reads) in
-      go (subst (Lies property-parts 0) e (k .inside)) (a .within) w
-    where
-      go : Lies property-parts 0 (got x n) → n ≤ length s → ReadingSpelled (propertyIn s x) → WordedProperty s x (propertyIn s x)
-      go (lies x′ n′ z i) within w = record {
+      let i = lies-got (k .inside) e .1 in
+      let within = a .within in
+      record {
         code = refl;
         type = refl;
         getset = refl;

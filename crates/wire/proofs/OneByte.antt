@@ -5,14 +5,14 @@ use mathlib.Core.Path.{_≡_, refl, ap, _∙_}
 use mathlib.Core.Bool.{Bool, true, false}
 use mathlib.Core.List.{List, [], _∷_}
 use mathlib.Core.Option.{Option, some, none}
-use Prim.Native.Nat.{ℕ, suc, _+_, _-_, _≤_}
+use Prim.Native.Nat.{ℕ, suc, _-_, _≤_}
 use native.Mathlib.Nat.{add-zero, suc-sub-suc}
 use native.Mathlib.Omega.{arith}
 use lib.Dec.{eqb}
-use lib.ListN.{length, take, drop}
+use lib.ListN.{length}
 use Rattle.layout.specs.Answer.{Answer, got, pick, after, means, spanAt, fieldAt}
 use Rattle.layout.specs.Bytes.{bytes, number}
-use Rattle.layout.proofs.laws.Make.{span-there}
+use Rattle.layout.proofs.laws.Reading.{field-there}
 use Rattle.wire.specs.Layout.{Reading}
 use Rattle.wire.specs.Codecs.{property}
 use Rattle.wire.specs.Description.{PropInfo}
@@ -49,10 +49,6 @@ module _ (t : ℕ) (s s′ : List ℕ) where
 
 -- ── the first five ──
 
-number-there : (k : ℕ) (s : List ℕ) (at : ℕ) → k ≤ length s - at → numAt k s at ≡ got (number (take k (drop at s))) (at + k)
-unfolding fieldAt after
-number-there k s at h = rw (span-there at k s at h)
-
 answered : (b : ℕ) {s s′ : List ℕ} {x x′ : Answer PropInfo} → On (infoOn b) s s′ x x′ → x′ ≡ answerOn b x
 answered b (on a n e) = refl
 answered b (stopped t) = refl
@@ -63,8 +59,8 @@ five b a₀ a₁ a₂ a₃ a₄ r =
     let s = a₀ ∷ a₁ ∷ a₂ ∷ a₃ ∷ a₄ ∷ r in
     let s′ = a₀ ∷ a₁ ∷ a₂ ∷ a₃ ∷ a₄ ∷ b ∷ r in
     let t = number (a₂ ∷ a₃ ∷ []) in
-    let sixth : numAt 1 s′ 5 ≡ got b 6 = number-there 1 s′ 5 (omega arith) ∙ ap (λ n. got n 6) (add-zero b) in
-    rw (number-there 2 s 0 (omega arith), number-there 2 s 2 (omega arith), number-there 1 s 4 (omega arith), number-there 2 s′ 0 (omega arith), number-there 2 s′ 2 (omega arith), number-there 1 s′ 4 (omega arith), sixth)
+    let sixth : numAt 1 s′ 5 ≡ got b 6 = field-there 1 number s′ 5 (omega arith) ∙ ap (λ n. got n 6) (add-zero b) in
+    rw (field-there 2 number s 0 (omega arith), field-there 2 number s 2 (omega arith), field-there 1 number s 4 (omega arith), field-there 2 number s′ 0 (omega arith), field-there 2 number s′ 2 (omega arith), field-there 1 number s′ 4 (omega arith), sixth)
     (answered b (on-after _ _ (slots t s s′ 1 5 refl) λ default e same. on-after _ _ (slots t s s′ 1 e same) λ current f same. on-after _ _ (forms t s s′ f same) λ shape n same. on _ n same))
 
 pub one-byte : (b : ℕ) (s : List ℕ) → 5 ≤ length s → propertyAt true (withByte b s) 0 ≡ answerOn b (propertyAt false s 0)

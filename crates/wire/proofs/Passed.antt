@@ -17,7 +17,7 @@ use Rattle.wire.specs.Codecs.{value}
 use Rattle.wire.specs.Places.{Located, number-is, empty, shapeAt, valueAt, shapeIn}
 use Rattle.wire.specs.Property.{between, passedAt, valuesAt}
 use Rattle.wire.proofs.Described.{values-from}
-use Rattle.wire.proofs.Located.{values}
+use Rattle.wire.proofs.laws.Located.{values}
 
 module _ (t : ℕ) (s : List ℕ) where
   -- one more: by the first value's own answer

@@ -13,7 +13,7 @@ use lib.ListN.{length, take, drop, getD, replicate, length-append, length-replic
 use lib.Seq.{drop-cons, getD-take, getD-append-add, length-take-le, take-append-seam}
 use Rattle.layout.specs.Answer.{Told, Answer, got, refused, pick, after, means}
 use Rattle.layout.specs.Written.{says, saidOf, tidied, took, spelling}
-use Rattle.layout.proofs.laws.Tidied.{measured, unmeasured, zero-one}
+use Rattle.layout.proofs.laws.Tidied.{measured, unmeasured, took-more}
 use Rattle.wire.specs.Layout.{Val}
 use Rattle.wire.specs.Codecs.{value, row}
 use Rattle.wire.specs.Tidy.{shapeWord, valueWord, rowWord, types}
@@ -122,11 +122,6 @@ sum-start ks s at = go (rowWord ks s at)
     go (refused t) = refl
 
 -- ── the word of a row that was read, a value at a time ──
-
-took-more : (bs : List ℕ) (y : Answer (List ℕ)) → took (means (λ cs. bs ++ cs) y) ≡ true → (took y ≡ true) × (spelling (means (λ cs. bs ++ cs) y) ≡ bs ++ spelling y)
-unfolding means
-took-more bs (got cs m) e = (refl, refl)
-took-more bs (refused t) e = zero-one (cc)
 
 module _ (ks s : List ℕ) (i at c : ℕ) (h : i < length ks) (is : c ≡ getD ks i 0) (w : took (rowWord (drop i ks) s at) ≡ true) (t n : ℕ) (e : got t n ≡ means length (valueWord c s at)) where
   pub value-took : took (valueWord c s at) ≡ true

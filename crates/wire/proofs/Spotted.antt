@@ -31,8 +31,8 @@ use Rattle.wire.specs.declared.storage.ReadStorage.{ReadStorage}
 use Rattle.wire.specs.Property.{propertyAt, saysProperty}
 use Rattle.wire.specs.declared.property.ReadProperty.{ReadProperty}
 use Rattle.wire.proofs.Described as Described
-use Rattle.wire.proofs.Located as Located
-use Rattle.wire.proofs.Formats.{text-format, value-format, row-format, property-format, enable-format}
+use Rattle.wire.proofs.laws.Located as Located
+use Rattle.wire.proofs.laws.Formats.{text-format, value-format, row-format, property-format, enable-format}
 use Rattle.wire.proofs.Refusals.{units-faults, text-faults, value-faults, row-faults, property-faults}
 
 -- ── each value is a field ──

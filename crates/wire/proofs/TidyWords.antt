@@ -12,6 +12,7 @@ use Rattle.layout.specs.Bytes.{Bytes, bytes}
 use Rattle.layout.specs.Codec.{Codec, repeated}
 use Rattle.layout.specs.Grammar.{loose, empty, _then_, lead, as′, Counted}
 use Rattle.layout.specs.Written.{says, no, saidOf, tidied, took, spelling}
+use Rattle.layout.proofs.laws.Accepted.{Accepts, accepted, accepts-any, accepts-after}
 use Rattle.layout.proofs.laws.Make.{num-size}
 use Rattle.layout.proofs.laws.Numbers.{length-bytes}
 use Rattle.layout.proofs.laws.Tidied.{Shrinks, nothing-shrinks, number-shrinks, then-shrinks, as-shrinks, count-shrinks, shrunk, zero-one}
@@ -26,7 +27,7 @@ use Rattle.wire.specs.Property.{between, slotAt, valuesAt, rangeAt, list
 use Rattle.wire.specs.Tidy.{rowWord, types}
 use Rattle.wire.specs.TidyProperty.{valuesWord, headerWord, rangeWord, listWord, formWord, propertyWord, Taken, WellForm, Well}
 use Rattle.wire.proofs.Described.{row-values, slot-in, values-in, properties}
-use Rattle.wire.proofs.Formats.{row-format, property-format}
+use Rattle.wire.proofs.laws.Formats.{row-format, property-format}
 use Rattle.wire.proofs.Values.{shaped-shrinks}
 
 -- ── the sizes ──
@@ -59,67 +60,50 @@ module _ (s : List ℕ) (x : PropInfo) where
 
 -- ── what was read of a description was read ──
 
-pub data Holds {L : Type 0} (P : L → Type 0) : Answer L → Type 0 where
-  holds : (l : L) (n : ℕ) → P l → Holds P (got l n)
-  not-read : {t : Told} → Holds P (refused t)
-
-holds-after : {A B : Type 0} {P : A → Type 0} {Q : B → Type 0} {x : Answer A} (k : A → ℕ → Answer B) → Holds P x → ((a : A) (n : ℕ) → P a → Holds Q (k a n)) → Holds Q (after x k)
-unfolding after
-holds-after k (holds l n h) f = f l n h
-holds-after k not-read f = not-read
-
-anything : {A : Type 0} (x : Answer A) → Holds (λ _. Unit {0}) x
-anything (got a n) = holds a n tt
-anything (refused t) = not-read
-
-values-taken : (t m : ℕ) (s : List ℕ) (at : ℕ) → Holds (λ p. Taken t m s (p .start)) (valuesAt t m s at)
+values-taken : (t m : ℕ) (s : List ℕ) (at : ℕ) → Accepts (λ p _. Taken t m s (p .start)) (valuesAt t m s at)
 unfolding valuesAt means after
 values-taken t m s at = go ((repeated m (value t)) .read s at) (ap took (row-values t m s at))
   where
-    go : (x : Answer (List Val)) → took (rowWord (types (t ∷ []) m) s at) ≡ took (means ((repeated m (value t)) .write) x) → Holds (λ p. Taken t m s (p .start)) (after x λ _ n. got (between at n) n)
-    go (got vs n) e = holds (between at n) n e
-    go (refused u) e = not-read
+    go : (x : Answer (List Val)) → took (rowWord (types (t ∷ []) m) s at) ≡ took (means ((repeated m (value t)) .write) x) → Accepts (λ p _. Taken t m s (p .start)) (after x λ _ n. got (between at n) n)
+    go (got vs n) e = e
+    go (refused u) e = tt
 
-form-well : (t : ℕ) (s : List ℕ) (at : ℕ) → Holds (WellForm t s) (formAt t s at)
+form-well : (t : ℕ) (s : List ℕ) (at : ℕ) → Accepts (λ f _. WellForm t s f) (formAt t s at)
 unfolding formAt rangeAt listAt
-form-well t s at = holds-after _ (anything (numAt 1 s at)) λ b p _. by b p
+form-well t s at = accepts-after _ _ (numAt 1 s at) _ (accepts-any (numAt 1 s at)) λ b p _. by b p
   where
-    by : (b p : ℕ) → Holds (WellForm t s) (pick (eqb b 1) (rangeAt t s p) (pick (eqb b 2) (listAt t s p) (got placed.absent p)))
-    by zero p = holds placed.absent p tt
-    by (suc zero) p = holds-after _ (values-taken t 1 s p) λ x a h. holds-after _ (values-taken t 1 s a) λ y b i. holds-after _ (values-taken t 1 s b) λ z n j. holds (placed.range x y z) n (h, i, j)
-    by (suc (suc zero)) p = holds-after _ (anything (numAt 2 s p)) λ n q _. holds-after _ (values-taken t n s q) λ y m h. holds (placed.list y n) m h
-    by (suc (suc (suc n))) p = rw (ne-eqb (suc (suc (suc n))) 1 (λ e. omega arith), ne-eqb (suc (suc (suc n))) 2 (λ e. omega arith)) (holds placed.absent p tt)
+    by : (b p : ℕ) → Accepts (λ f _. WellForm t s f) (pick (eqb b 1) (rangeAt t s p) (pick (eqb b 2) (listAt t s p) (got placed.absent p)))
+    by zero p = tt
+    by (suc zero) p = accepts-after _ _ (valuesAt t 1 s p) _ (values-taken t 1 s p) λ x a h. accepts-after _ _ (valuesAt t 1 s a) _ (values-taken t 1 s a) λ y b i. accepts-after _ _ (valuesAt t 1 s b) _ (values-taken t 1 s b) λ z n j. (h, i, j)
+    by (suc (suc zero)) p = accepts-after _ _ (numAt 2 s p) _ (accepts-any (numAt 2 s p)) λ n q _. accepts-after _ _ (valuesAt t n s q) _ (values-taken t n s q) λ y m h. h
+    by (suc (suc (suc n))) p = rw (ne-eqb (suc (suc (suc n))) 1 (λ e. omega arith), ne-eqb (suc (suc (suc n))) 2 (λ e. omega arith)) (tt)
 
-property-well : (there : Bool) (s : List ℕ) (at : ℕ) → Holds (Well s) (propertyAt there s at)
+property-well : (there : Bool) (s : List ℕ) (at : ℕ) → Accepts (λ x _. Well s x) (propertyAt there s at)
 unfolding propertyAt
 property-well there s at =
-    holds-after _ (anything (numAt 2 s at)) λ _ a _.
-    holds-after _ (anything (numAt 2 s a)) λ t b _.
-    holds-after _ (anything (numAt 1 s b)) λ _ c _.
-    holds-after _ (anything (enableAt there s c)) λ _ d _.
-    holds-after _ (values-taken t 1 s d) λ _ e h.
-    holds-after _ (values-taken t 1 s e) λ _ f i.
-    holds-after _ (form-well t s f) λ _ n j.
-    holds _ n (record { default = h; current = i; form = j })
+    accepts-after _ _ (numAt 2 s at) _ (accepts-any (numAt 2 s at)) λ _ a _.
+    accepts-after _ _ (numAt 2 s a) _ (accepts-any (numAt 2 s a)) λ t b _.
+    accepts-after _ _ (numAt 1 s b) _ (accepts-any (numAt 1 s b)) λ _ c _.
+    accepts-after _ _ (enableAt there s c) _ (accepts-any (enableAt there s c)) λ _ d _.
+    accepts-after _ _ (valuesAt t 1 s d) _ (values-taken t 1 s d) λ _ e h.
+    accepts-after _ _ (valuesAt t 1 s e) _ (values-taken t 1 s e) λ _ f i.
+    accepts-after _ _ (formAt t s f) _ (form-well t s f) λ _ n j.
+    (record { default = h; current = i; form = j })
 
 pub well-read : (there : Bool) (s : List ℕ) (at : ℕ) (x : PropInfo) (n : ℕ) → got x n ≡ propertyAt there s at → Well s x
-well-read there s at x n e = go (propertyAt there s at) (property-well there s at) e
-  where
-    go : (y : Answer PropInfo) → Holds (Well s) y → got x n ≡ y → Well s x
-    go (got z m) (holds l k h) e = let f : x ≡ z = cc in rw f h
-    go (refused u) not-read e = zero-one (cc)
+well-read there s at x n e = accepted (λ x _. Well s x) (property-well there s at) e
 
 -- ── and its tidy word is made of the tidy words of its values ──
 
-slot-word : (t : ℕ) (s : List ℕ) (at : ℕ) → Holds (λ p. (value t) .write (slotIn t s p) ≡ valuesWord t 1 s (p .start)) (slotAt t s at)
+slot-word : (t : ℕ) (s : List ℕ) (at : ℕ) → Accepts (λ p _. (value t) .write (slotIn t s p) ≡ valuesWord t 1 s (p .start)) (slotAt t s at)
 unfolding valuesAt means after
 slot-word t s at = go ((value t) .read s at) refl (ap spelling (row-values t 1 s at))
   where
     go : (x : Answer Val) → (value t) .read s at ≡ x
         → valuesWord t 1 s at ≡ spelling (means ((repeated 1 (value t)) .write) (means (λ (v : Val × List Val). v .0 ∷ v .1) (after x λ a n. means (λ (b : List Val). (a, b)) (got [] n))))
-        → Holds (λ p. (value t) .write (slotIn t s p) ≡ valuesWord t 1 s (p .start)) (after (means (λ (v : Val × List Val). v .0 ∷ v .1) (after x λ a n. means (λ (b : List Val). (a, b)) (got [] n))) λ _ n. got (between at n) n)
-    go (got v n) e w = holds (between at n) n (ap ((value t) .write) (slot-in t s at v n e) ∙ sym (w ∙ append-nil ((value t) .write v)))
-    go (refused u) e w = not-read
+        → Accepts (λ p _. (value t) .write (slotIn t s p) ≡ valuesWord t 1 s (p .start)) (after (means (λ (v : Val × List Val). v .0 ∷ v .1) (after x λ a n. means (λ (b : List Val). (a, b)) (got [] n))) λ _ n. got (between at n) n)
+    go (got v n) e w = (ap ((value t) .write) (slot-in t s at v n e) ∙ sym (w ∙ append-nil ((value t) .write v)))
+    go (refused u) e w = tt
 
 repeated-length : (m : ℕ) (F : Codec Val) (s : List ℕ) (at : ℕ) (vs : List Val) (n : ℕ) → (repeated m F) .read s at ≡ got vs n → length vs ≡ m
 unfolding means after
@@ -135,49 +119,45 @@ repeated-length (suc m) F s at vs n e = first (F .read s at) (λ q ws k. repeate
     first (got v q) f e = rest v ((repeated m F) .read s q) (f q) e
     first (refused u) f e = zero-one (cc)
 
-list-word : (t n : ℕ) (s : List ℕ) (at : ℕ) → Holds (λ p. (listed t) .write (valuesIn t s p n) ≡ bytes 2 n ++ valuesWord t n s (p .start)) (valuesAt t n s at)
+list-word : (t n : ℕ) (s : List ℕ) (at : ℕ) → Accepts (λ p _. (listed t) .write (valuesIn t s p n) ≡ bytes 2 n ++ valuesWord t n s (p .start)) (valuesAt t n s at)
 unfolding valuesAt means after
 list-word t n s at = go ((repeated n (value t)) .read s at) refl (ap spelling (row-values t n s at))
   where
     go : (x : Answer (List Val)) → (repeated n (value t)) .read s at ≡ x → valuesWord t n s at ≡ spelling (means ((repeated n (value t)) .write) x)
-        → Holds (λ p. (listed t) .write (valuesIn t s p n) ≡ bytes 2 n ++ valuesWord t n s (p .start)) (after x λ _ m. got (between at m) m)
-    go (got vs m) e w = holds (between at m) m (ap ((listed t) .write) (values-in t n s at vs m e) ∙ rw (repeated-length n (value t) s at vs m e, w))
-    go (refused u) e w = not-read
+        → Accepts (λ p _. (listed t) .write (valuesIn t s p n) ≡ bytes 2 n ++ valuesWord t n s (p .start)) (after x λ _ m. got (between at m) m)
+    go (got vs m) e w = (ap ((listed t) .write) (values-in t n s at vs m e) ∙ rw (repeated-length n (value t) s at vs m e, w))
+    go (refused u) e w = tt
 
-form-word : (t : ℕ) (s : List ℕ) (at : ℕ) → Holds (λ f. (form t) .write (formIn t s f) ≡ formWord t s f) (formAt t s at)
+form-word : (t : ℕ) (s : List ℕ) (at : ℕ) → Accepts (λ f _. (form t) .write (formIn t s f) ≡ formWord t s f) (formAt t s at)
 unfolding formAt rangeAt listAt formWord rangeWord listWord
-form-word t s at = holds-after _ (anything (numAt 1 s at)) λ b p _. by b p
+form-word t s at = accepts-after _ _ (numAt 1 s at) _ (accepts-any (numAt 1 s at)) λ b p _. by b p
   where
-    by : (b p : ℕ) → Holds (λ f. (form t) .write (formIn t s f) ≡ formWord t s f) (pick (eqb b 1) (rangeAt t s p) (pick (eqb b 2) (listAt t s p) (got placed.absent p)))
-    by zero p = holds placed.absent p (append-nil (bytes 1 0))
-    by (suc zero) p = holds-after _ (slot-word t s p) λ x a h. holds-after _ (slot-word t s a) λ y b i. holds-after _ (slot-word t s b) λ z n j. holds (placed.range x y z) n (rw (h, i, j) (simp append-assoc))
-    by (suc (suc zero)) p = holds-after _ (anything (numAt 2 s p)) λ n q _. holds-after _ (list-word t n s q) λ y m h. holds (placed.list y n) m (rw h (simp append-assoc))
-    by (suc (suc (suc n))) p = rw (ne-eqb (suc (suc (suc n))) 1 (λ e. omega arith), ne-eqb (suc (suc (suc n))) 2 (λ e. omega arith)) (holds placed.absent p (append-nil (bytes 1 0)))
+    by : (b p : ℕ) → Accepts (λ f _. (form t) .write (formIn t s f) ≡ formWord t s f) (pick (eqb b 1) (rangeAt t s p) (pick (eqb b 2) (listAt t s p) (got placed.absent p)))
+    by zero p = (append-nil (bytes 1 0))
+    by (suc zero) p = accepts-after _ _ (slotAt t s p) _ (slot-word t s p) λ x a h. accepts-after _ _ (slotAt t s a) _ (slot-word t s a) λ y b i. accepts-after _ _ (slotAt t s b) _ (slot-word t s b) λ z n j. (rw (h, i, j) (simp append-assoc))
+    by (suc (suc zero)) p = accepts-after _ _ (numAt 2 s p) _ (accepts-any (numAt 2 s p)) λ n q _. accepts-after _ _ (valuesAt t n s q) _ (list-word t n s q) λ y m h. (rw h (simp append-assoc))
+    by (suc (suc (suc n))) p = rw (ne-eqb (suc (suc (suc n))) 1 (λ e. omega arith), ne-eqb (suc (suc (suc n))) 2 (λ e. omega arith)) ((append-nil (bytes 1 0)))
 
-enable-word : (there : Bool) (s : List ℕ) (at : ℕ) → Holds (λ e. (enable there) .write e ≡ enable-write e) (enableAt there s at)
+enable-word : (there : Bool) (s : List ℕ) (at : ℕ) → Accepts (λ e _. (enable there) .write e ≡ enable-write e) (enableAt there s at)
 unfolding enableAt
-enable-word true s at = holds-after _ (anything (numAt 1 s at)) λ v n _. holds (some v) n refl
-enable-word false s at = holds none at refl
+enable-word true s at = accepts-after _ _ (numAt 1 s at) _ (accepts-any (numAt 1 s at)) λ v n _. refl
+enable-word false s at = refl
 
-words : (there : Bool) (s : List ℕ) (at : ℕ) → Holds (λ x. (property there) .write (propertyIn s x) ≡ propertyWord s x) (propertyAt there s at)
+words : (there : Bool) (s : List ℕ) (at : ℕ) → Accepts (λ x _. (property there) .write (propertyIn s x) ≡ propertyWord s x) (propertyAt there s at)
 unfolding propertyAt propertyWord headerWord
 words there s at =
-    holds-after _ (anything (numAt 2 s at)) λ _ a _.
-    holds-after _ (anything (numAt 2 s a)) λ t b _.
-    holds-after _ (anything (numAt 1 s b)) λ _ c _.
-    holds-after _ (enable-word there s c) λ _ d g.
-    holds-after _ (slot-word t s d) λ _ e h.
-    holds-after _ (slot-word t s e) λ _ f i.
-    holds-after _ (form-word t s f) λ _ n j.
-    holds _ n (rw (g, h, i, j) (simp append-assoc))
+    accepts-after _ _ (numAt 2 s at) _ (accepts-any (numAt 2 s at)) λ _ a _.
+    accepts-after _ _ (numAt 2 s a) _ (accepts-any (numAt 2 s a)) λ t b _.
+    accepts-after _ _ (numAt 1 s b) _ (accepts-any (numAt 1 s b)) λ _ c _.
+    accepts-after _ _ (enableAt there s c) _ (enable-word there s c) λ _ d g.
+    accepts-after _ _ (slotAt t s d) _ (slot-word t s d) λ _ e h.
+    accepts-after _ _ (slotAt t s e) _ (slot-word t s e) λ _ f i.
+    accepts-after _ _ (formAt t s f) _ (form-word t s f) λ _ n j.
+    (rw (g, h, i, j) (simp append-assoc))
 
 word-read : (there : Bool) (s : List ℕ) (x : PropInfo) (n : ℕ) → got x n ≡ propertyAt there s 0 → means ((property there) .write) ((property there) .read s 0) ≡ got (propertyWord s x) n
 unfolding means
-word-read there s x n e = rw (← (properties there) .agrees s 0, ← e) (ap (λ w. got w n) (go (propertyAt there s 0) (words there s 0) e))
-  where
-    go : (y : Answer PropInfo) → Holds (λ x. (property there) .write (propertyIn s x) ≡ propertyWord s x) y → got x n ≡ y → (property there) .write (propertyIn s x) ≡ propertyWord s x
-    go (got z m) (holds l k h) e = let f : x ≡ z = cc in rw f h
-    go (refused u) not-read e = zero-one (cc)
+word-read there s x n e = rw (← (properties there) .agrees s 0, ← e) (ap (λ w. got w n) (accepted (λ x _. (property there) .write (propertyIn s x) ≡ propertyWord s x) (words there s 0) e))
 
 -- what the tidy writer has to say of it
 pub said-property : (there : Bool) (s : List ℕ) (x : PropInfo) (n : ℕ) → got x n ≡ propertyAt there s 0 → tidied (property there) s ≡ says (propertyWord s x)

@@ -20,9 +20,9 @@ use Rattle.wire.specs.Layout.{meaning, width, Shape, one, many, string, 
 use Rattle.wire.specs.Places.{numAt, textAt, arrayAt, itemsIn, Located, number-is, items, units, empty, shapeAt, valueAt, shapeIn, rowAt, rowIn}
 use Rattle.wire.specs.Worded.{Worded, itemsSlot, WordedValue, a-number, an-array, a-string, nothing, WordedRow, none, field}
 use Rattle.wire.proofs.Agrees.{Ranged, array-ranged}
-use Rattle.wire.proofs.Formats.{value-format}
+use Rattle.wire.proofs.laws.Formats.{value-format}
 use Rattle.wire.proofs.Held.{worded}
-use Rattle.wire.proofs.Located.{values}
+use Rattle.wire.proofs.laws.Located.{values}
 use Rattle.wire.proofs.Spelled.{Stood, text-stood}
 
 module _ (s : List ℕ) (h : Bytes s) where

@@ -1,5 +1,7 @@
 -- The laws of this crate that a crate above it may cite, beside its specs: its interface to proofs.
 -- Assumes nothing.
+pub mod Formats
+pub mod Located
 pub mod Points
 pub mod Unique
 pub mod Numbered

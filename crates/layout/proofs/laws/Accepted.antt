@@ -4,7 +4,7 @@ use mathlib.Core.Path.{_≡_, refl, sym, subst}
 use mathlib.Core.Bool.{Bool, true, false}
 use mathlib.Core.List.{List}
 use Prim.Native.Nat.{ℕ, _+_, _-_, _≤_}
-use lib.ListN.{length, take, drop}
+use lib.ListN.{length}
 use Rattle.layout.specs.Answer.{Answer, got, refused, pick, after, means, spanAt, fieldAt}
 use Rattle.layout.proofs.laws.Make.{Spanned, there, short, spanned}
 
@@ -44,11 +44,14 @@ pub accepts-pick : {A : Type 0} (P : A → ℕ → Type 0) (b : Bool) (x y : Ans
 accepts-pick P true x y f g = f refl
 accepts-pick P false x y f g = g refl
 
--- a field lies within
-pub accepts-field : {A : Type 0} (w : ℕ) (mean : List ℕ → A) (s : List ℕ) (at : ℕ) → Accepts (λ a n. (w ≤ length s - at) × (n ≡ at + w)) (fieldAt w mean s at)
-unfolding fieldAt after
-accepts-field w mean s at = go (spanAt at w s at) (spanned at w s at)
+-- a span and a field lie within
+pub accepts-span : (field n : ℕ) (s : List ℕ) (at : ℕ) → Accepts (λ _ m. (n ≤ length s - at) × (m ≡ at + n)) (spanAt field n s at)
+accepts-span field n s at = go (spanAt field n s at) (spanned field n s at)
   where
-    go : (x : Answer (Unit {0})) → Spanned at w s at x → Accepts (λ a n. (w ≤ length s - at) × (n ≡ at + w)) (after x λ _ next. got (mean (take w (drop at s))) next)
-    go (got t n) (there h) = (h, refl)
+    go : (x : Answer (Unit {0})) → Spanned field n s at x → Accepts (λ _ m. (n ≤ length s - at) × (m ≡ at + n)) x
+    go (got t m) (there h) = (h, refl)
     go (refused t) (short h) = tt
+
+pub accepts-field : {A : Type 0} (w : ℕ) (mean : List ℕ → A) (s : List ℕ) (at : ℕ) → Accepts (λ a n. (w ≤ length s - at) × (n ≡ at + w)) (fieldAt w mean s at)
+unfolding fieldAt
+accepts-field w mean s at = accepts-after _ _ (spanAt at w s at) _ (accepts-span at w s at) λ _ n h. h

@@ -11,16 +11,16 @@ use Rattle.layout.specs.Answer.{Told, Answer, got, refused, Reader, mean
 use Rattle.layout.specs.Bytes.{Bytes}
 use Rattle.layout.specs.Codec.{Codec}
 use Rattle.layout.specs.Faithful.{Faithful}
-use Rattle.layout.specs.Fault.{Fault, Clean, Begins, Spoilt, Ends, BadText, Refuses, Stays, Settled, good, bad, Final, Decides, Alike, both-read, both-end, both-text, Blames, fine, fault, cut, Faulted}
+use Rattle.layout.specs.Fault.{Fault, Clean, Begins, Spoilt, Ends, BadText, Refuses, Stays, same, more, Settled, good, bad, Final, Decides, Alike, both-read, both-end, both-text, Blames, fine, fault, cut, Faulted}
 use Rattle.layout.specs.Format.{Stands, Sound, word, none, Format}
 use Rattle.layout.specs.Grammar.{Grammar}
 use Rattle.layout.specs.Placed.{Placed}
+use Rattle.layout.specs.Refusals.{END, TEXT}
 use Rattle.layout.proofs.laws.Final.{end-not-text, stays-got, stays-text, Bytes-append}
 use Rattle.layout.proofs.laws.Meets.{accepted}
+use Rattle.layout.proofs.laws.Reading.{refused-meant}
+use Rattle.layout.proofs.laws.Tidied.{zero-one}
 use Rattle.layout.proofs.laws.Words.{fits, part-there}
-
-zero-one : {A : Type 0} → _≡_ {A = ℕ} 0 1 → A
-zero-one e = let f : ⊥ = omega arith in absurd f
 
 -- a prefix of s is one of s with more after it
 pub begins-on : {R : Type 0} {G : Grammar R} (s t : List ℕ) → Begins G s → Begins G (s ++ t)
@@ -93,11 +93,6 @@ module _ {R : Type 0} {G : Grammar R} {B : Fault} {F : Codec R} (f : Format G F)
 
   -- ── of an answer that means the reader's ──
 
-  refused-so : {L : Type 0} (mean : L → R) (x : Answer L) (t : Told) → means mean x ≡ refused t → x ≡ refused t
-  unfolding means
-  refused-so mean (got l n) t e = zero-one (cc)
-  refused-so mean (refused u) t e = cc
-
   means-so : {L : Type 0} (mean : L → R) (x : Answer L) (t : Told) → x ≡ refused t → means mean x ≡ refused t
   unfolding means
   means-so mean x t e = rw e
@@ -106,7 +101,7 @@ module _ {R : Type 0} {G : Grammar R} {B : Fault} {F : Codec R} (f : Format G F)
   refuses-as mean s h at x agrees =
       let r = refuses s h at in
       let to : (t : Told) → x ≡ refused t → F .read s at ≡ refused t = λ t e. sym agrees ∙ means-so mean x t e in
-      let back : (t : Told) → F .read s at ≡ refused t → x ≡ refused t = λ t e. refused-so mean x t (agrees ∙ e) in
+      let back : (t : Told) → F .read s at ≡ refused t → x ≡ refused t = λ t e. refused-meant mean x (agrees ∙ e) in
       record {
         text = (λ e. r .text .0 (e .0, to _ (e .1)), λ p. let o = r .text .1 p in (o .0, back _ (o .1)));
         ends = (λ e. r .ends .0 (e .0, to _ (e .1)), λ p. let o = r .ends .1 p in (o .0, back _ (o .1)));
@@ -114,13 +109,26 @@ module _ {R : Type 0} {G : Grammar R} {B : Fault} {F : Codec R} (f : Format G F)
       }
     where
       go : Ends (F .read s at) ⊎ BadText (F .read s at) → Ends x ⊎ BadText x
-      go (inl e) = inl (e .0, refused-so mean x _ (agrees ∙ e .1))
-      go (inr e) = inr (e .0, refused-so mean x _ (agrees ∙ e .1))
+      go (inl e) = inl (e .0, refused-meant mean x (agrees ∙ e .1))
+      go (inr e) = inr (e .0, refused-meant mean x (agrees ∙ e .1))
 
   -- any answer that a promise of places allows
   pub refuses-exactly : {L : Type 0} {mean : List ℕ → L → R} {parts : L → List (ℕ × ℕ)} {place : Reader L} → Placed mean parts place (F .read)
       → (s : List ℕ) → Bytes s → (at : ℕ) (x : Answer L) → x ≡ place s at → Refuses G B (drop at s) x
   refuses-exactly {mean} P s h at x promised = refuses-as (mean s) s h at x (ap (means (mean s)) promised ∙ P .agrees s at)
+
+-- a refusal is 1 or 2, of any bytes: for some that follow there is an answer other than 1, and it stays
+pub end-or-text : {R L : Type 0} {B : Fault} {F : Codec R} {mean : List ℕ → L → R} {parts : L → List (ℕ × ℕ)} {place : Reader L} → Faulted B F → Placed mean parts place (F .read)
+    → (s : List ℕ) (at : ℕ) (t : Told) → place s at ≡ refused t → (t .no ≡ END) ⊎ (t .no ≡ TEXT)
+unfolding means endAt badText
+end-or-text {R} {F} {mean} b p s at t e =
+    let o = b .opens s at in
+    go (b .final s (o .0) at) (o .1 .1) (sym (p .agrees s at) ∙ rw e)
+  where
+    go : {x y : Answer R} → Stays x y → Settled y → x ≡ refused t → (t .no ≡ END) ⊎ (t .no ≡ TEXT)
+    go same good e = zero-one (cc)
+    go same (bad q) e = inr (let is : t ≡ badText q = cc in ap (λ (u : Told). u .no) is)
+    go (more q) settled e = inl (let is : t ≡ endAt q = cc in ap (λ (u : Told). u .no) is)
 
 -- of a reader of places too: by its meaning the same answer, unless it was END
 pub stays-exactly : {R L : Type 0} {read : Reader R} {mean : List ℕ → L → R} {parts : L → List (ℕ × ℕ)} {place : Reader L} → Final read → Placed mean parts place read

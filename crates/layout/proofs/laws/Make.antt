@@ -174,6 +174,11 @@ module _ {A R : Type 0} {G : Grammar A} {H : A → Grammar R} {F : Codec A} {K :
 
 -- ── a test; refused, it is told by `why` of the place ──
 
+-- it holds, so it is true
+pub tested : (b : Bool) → T b → b ≡ true
+tested true t = refl
+tested false t = absurd t
+
 module _ {R : Type 0} {G : Grammar R} {F : Codec R} (why : ℕ → Told) (test : R → Bool) (f : Format G F) where
   such-sound : (s : List ℕ) → Bytes s → (at : ℕ) → Sound (Such test G) s at ((only why test F) .read s at)
   such-sound s h at = after-sound _ (f .sound s h at) λ r n w st g. go r n w st g (test r) (λ t. t)
@@ -184,11 +189,7 @@ module _ {R : Type 0} {G : Grammar R} {F : Codec R} (why : ℕ → Told) (test :
 
   such-complete : {s w : List ℕ} {at n : ℕ} {r : R} → Stands s at n w → Such test G loose w r → (only why test F) .read s at ≡ got r n
   unfolding after
-  such-complete {s} {w} {at} {n} st (such {r} p g) = rw (f .complete st g) (go (test r) p)
-    where
-      go : (b : Bool) → T b → pick b (got r n) (refused (why at)) ≡ got r n
-      go true p = refl
-      go false p = absurd p
+  such-complete st (such {r} p g) = rw (f .complete st g, tested (test r) p)
 
   such-inside : {w : List ℕ} {r : R} → Such test G tidy w r → Such test G loose w r
   such-inside (such p g) = such p (f .inside g)

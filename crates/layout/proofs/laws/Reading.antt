@@ -1,6 +1,7 @@
 -- Laws of answers, of spans and fields, and of numbers over the width.
 -- Assumes nothing.
 use mathlib.Core.Path.{_≡_, refl, sym, _∙_, ap}
+use mathlib.Core.Bool.{Bool, true, false}
 use mathlib.Core.List.{List, [], _∷_}
 use Prim.Native.Nat.{ℕ, zero, suc, _+_, _-_, _*_, _/_, _^_, _≤_, _<_}
 use native.Mathlib.Nat.{pow-succ', pow-le-pow-right, zero-add, suc-add, zero-mul, suc-mul, add-div-right, div-eq-of-lt}
@@ -9,16 +10,19 @@ use native.Mathlib.Omega.{arith}
 use lib.Dec.{lit≤}
 use lib.ListN.{length, take, drop, getD}
 use lib.Seq.{drop-cons, take-take}
-use Rattle.layout.specs.Answer.{Answer, Told, got, refused, after, means, spanAt, fieldAt}
+use Rattle.layout.specs.Answer.{Answer, Told, got, refused, pick, after, means, spanAt, fieldAt}
 use Rattle.layout.specs.Bytes.{number, cells}
 use Rattle.layout.proofs.laws.Make.{Spanned, short, spanned, there, span-short, span-there}
-
-zero-one : _≡_ {A = ℕ} 0 1 → ⊥
-zero-one e = omega arith
+use Rattle.layout.proofs.laws.Tidied.{zero-one}
 
 -- what an answer says, of the case that it is
 pub heard : {R A : Type 0} (says : R → A) {r k : R} {a : A} → r ≡ k → says r ≡ a → says k ≡ a
 heard says e h = ap says (sym e) ∙ h
+
+-- a test whose answers are the same
+pub pick-alike : {A : Type 0} (b : Bool) (x : A) → pick b x x ≡ x
+pick-alike true x = refl
+pick-alike false x = refl
 
 -- a row of fields: past one that is there, and stopped at one that is not
 pub follow : {A B : Type 0} {x : Answer A} (k : A → ℕ → Answer B) {z : Answer B} {a : A} {p : ℕ} → got a p ≡ x → z ≡ k a p → z ≡ after x k
@@ -53,23 +57,57 @@ unfolding means
 means-same (got a p) = refl
 means-same (refused t) = refl
 
+-- ── an answer that was got, taken apart ──
+
+pub one-got : {A : Type 0} {a b : A} {n m : ℕ} → got a n ≡ got b m → (a ≡ b) × (n ≡ m)
+one-got e = (cc, cc)
+
+-- of two, one after the other, both were
+pub parted : {A B : Type 0} (x : Answer A) (k : A → ℕ → Answer B) {b : B} {n : ℕ} → after x k ≡ got b n → (a : A) × (p : ℕ) × (x ≡ got a p) × (k a p ≡ got b n)
+unfolding after
+parted (got a p) k e = (a, p, refl, e)
+parted (refused t) k e = zero-one (cc)
+
+-- past a test that else refuses, it held
+pub picked : {A : Type 0} (b : Bool) (x : Answer A) (t : Told) {a : A} {n : ℕ} → pick b x (refused t) ≡ got a n → (b ≡ true) × (x ≡ got a n)
+picked true x t e = (refl, e)
+picked false x t e = zero-one (cc)
+
+-- by its meaning
+pub unmeant : {A B : Type 0} (f : A → B) (x : Answer A) {b : B} {n : ℕ} → means f x ≡ got b n → (a : A) × (x ≡ got a n) × (f a ≡ b)
+unfolding means
+unmeant f (got a p) e = (a, cc, cc)
+unmeant f (refused t) e = zero-one (cc)
+
+-- and one that was refused
+pub refused-meant : {A B : Type 0} (f : A → B) (x : Answer A) {t : Told} → means f x ≡ refused t → x ≡ refused t
+unfolding means
+refused-meant f (got a n) e = zero-one (cc)
+refused-meant f (refused t) e = cc
+
+-- ── spans and fields ──
+
 -- a span that is there: it lies within, and ends where it should
 pub span-within : (field n : ℕ) (s : List ℕ) (at p : ℕ) → got tt p ≡ spanAt field n s at → (n ≤ length s - at) × (p ≡ at + n)
 span-within field n s at p e = go (spanAt field n s at) (spanned field n s at) e
   where
     go : (x : Answer (Unit {0})) → Spanned field n s at x → got tt p ≡ x → (n ≤ length s - at) × (p ≡ at + n)
     go (got t q) (there h) e = (h, cc)
-    go (refused t) (short h) e = elim (zero-one (cc)) [ ]
+    go (refused t) (short h) e = zero-one (cc)
 
 -- one that is not there: too few bytes are left
 pub span-over : (field n : ℕ) (s : List ℕ) (at : ℕ) (t : Told) → refused t ≡ spanAt field n s at → length s - at < n
 span-over field n s at t e = go (spanAt field n s at) (spanned field n s at) e
   where
     go : (x : Answer (Unit {0})) → Spanned field n s at x → refused t ≡ x → length s - at < n
-    go (got u q) (there h) e = elim (zero-one (cc)) [ ]
+    go (got u q) (there h) e = zero-one (cc)
     go (refused u) (short h) e = h
 
 module _ {A : Type 0} (w : ℕ) (mean : List ℕ → A) (s : List ℕ) (at : ℕ) where
+  pub field-there : w ≤ length s - at → fieldAt w mean s at ≡ got (mean (take w (drop at s))) (at + w)
+  unfolding fieldAt after
+  field-there h = rw (span-there at w s at h)
+
   pub field-got : (p : ℕ) (a : A) → a ≡ mean (take w (drop at s)) → got tt p ≡ spanAt at w s at → got a p ≡ fieldAt w mean s at
   unfolding fieldAt
   field-got p a h e = follow _ e (ap (λ x. got x p) h)
@@ -86,7 +124,7 @@ module _ (a b : ℕ) (s : List ℕ) (at : ℕ) where
     where
       go : (x : Answer (Unit {0})) → Spanned at a s at x → got tt p ≡ after x (λ _ q. spanAt q b s q) → (got tt (at + a) ≡ x) × (got tt p ≡ spanAt (at + a) b s (at + a))
       go (got t q) (there h) e = (refl, e)
-      go (refused t) (short h) e = elim (zero-one (cc)) [ ]
+      go (refused t) (short h) e = zero-one (cc)
 
   pub two-cut : {A B C : Type 0} (f : List ℕ → A) (g : List ℕ → B) (k : A → B → ℕ → Answer C) (t : Told)
       → refused t ≡ after (spanAt at a s at) (λ _ q. spanAt q b s q) → refused t ≡ after (fieldAt a f s at) (λ x q. after (fieldAt b g s q) (k x))

@@ -130,35 +130,28 @@ module _ {R : Type 0} {G : Grammar R} {F : Codec R} (f : Format G F) (o : Owned 
 -- ── one after the other; the first picks the second ──
 
 module _ {A B : Type 0} {G : Grammar A} {P : Spot} {Q : A → Spot} {F : Codec A} {K : A → Codec B} (f : Format G F) (p : Spotted P F) (k : (a : A) → Spotted (Q a) (K a)) where
-  then-found : (s : List ℕ) → Bytes s → (at : ℕ) (l : List ℕ) (q : ℕ) → l ≡ drop at s → Past G P Q l q → Of (at + q) ((F and K) .read s at)
+  -- what goes on after the first tells of the second's place
+  past-found : {C : Type 0} (s : List ℕ) → Bytes s → (on : A → ℕ → Answer C) → ((a : A) (n place : ℕ) → Of place ((K a) .read s n) → Of place (on a n)) → (at : ℕ) (l : List ℕ) (q : ℕ) → l ≡ drop at s → Past G P Q l q
+      → Of (at + q) (after (F .read s at) on)
   unfolding after
-  then-found s h at l q e (early i) = of-after _ (p .found s h at q (subst (λ m. P m q) e i))
-  then-found s h at l q e (later {u} {v} {a} {q = m} g i) =
+  past-found s h on tells at l q e (early i) = of-after _ (p .found s h at q (subst (λ m. P m q) e i))
+  past-found s h on tells at l q e (later {u} {v} {a} {q = m} g i) =
       let there : F .read s at ≡ got a (at + length u) = first-read f s u v at e g in
       let place : at + length u + m ≡ at + (length u + m) = omega arith in
       let next = (k a) .found s h (at + length u) m (subst (λ r. Q a r m) (sym (rest-is f s u v at e)) i) in
-      rw (there, ← place) (of-means _ next)
+      rw (there, ← place) (tells a (at + length u) (at + length u + m) next)
 
   pub then-spotted : Spotted (Past G P Q) (F and K)
   then-spotted = record {
     spots = λ s h at. spots-after _ (f .sound s h at) (p .spots s h at) λ a n. spots-means _ ((k a) .spots s h n);
-    found = λ s h at q i. then-found s h at (drop at s) q refl i;
+    found = λ s h at q i. past-found s h _ (λ a n place o. of-means _ o) at (drop at s) q refl i;
   }
 
 module _ {A R : Type 0} {G : Grammar A} {P : Spot} {Q : A → Spot} {F : Codec A} {K : A → Codec R} (f : Format G F) (c : R → A) (p : Spotted P F) (k : (a : A) → Spotted (Q a) (K a)) where
-  lead-found : (s : List ℕ) → Bytes s → (at : ℕ) (l : List ℕ) (q : ℕ) → l ≡ drop at s → Past G P Q l q → Of (at + q) ((leading F c K) .read s at)
-  unfolding after
-  lead-found s h at l q e (early i) = of-after _ (p .found s h at q (subst (λ m. P m q) e i))
-  lead-found s h at l q e (later {u} {v} {a} {q = m} g i) =
-      let there : F .read s at ≡ got a (at + length u) = first-read f s u v at e g in
-      let place : at + length u + m ≡ at + (length u + m) = omega arith in
-      let next = (k a) .found s h (at + length u) m (subst (λ r. Q a r m) (sym (rest-is f s u v at e)) i) in
-      rw (there, ← place) next
-
   pub lead-spotted : Spotted (Past G P Q) (leading F c K)
   lead-spotted = record {
     spots = λ s h at. spots-after _ (f .sound s h at) (p .spots s h at) λ a n. (k a) .spots s h n;
-    found = λ s h at q i. lead-found s h at (drop at s) q refl i;
+    found = λ s h at q i. past-found f p k s h _ (λ a n place o. o) at (drop at s) q refl i;
   }
 
 pub as-spotted : {A B : Type 0} {P : Spot} {F : Codec A} (f : A → B) (out : B → List ℕ) → Spotted P F → Spotted P (through f F out)

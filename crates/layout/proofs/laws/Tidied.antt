@@ -2,7 +2,7 @@
 -- Assumes nothing.
 use mathlib.Core.Path.{_≡_, refl, ap}
 use mathlib.Core.Bool.{true}
-use mathlib.Core.List.{List, []}
+use mathlib.Core.List.{List, [], _++_}
 use Prim.Native.Nat.{ℕ, zero, suc, _+_, _-_, _≤_}
 use native.Mathlib.Omega.{arith}
 use lib.ListN.{length, length-append}
@@ -49,6 +49,12 @@ module _ (x : Answer (List ℕ)) where
   -- taken, it was not refused
   pub never : {X : Type 0} (t : Told) → x ≡ refused t → took x ≡ true → X
   never t e h = let f : took (refused t) ≡ true = rw e at h in zero-one (cc)
+
+-- a part, and what is taken after it
+pub took-more : (bs : List ℕ) (x : Answer (List ℕ)) → took (means (λ cs. bs ++ cs) x) ≡ true → (took x ≡ true) × (spelling (means (λ cs. bs ++ cs) x) ≡ bs ++ spelling x)
+unfolding means
+took-more bs (got cs n) e = (refl, refl)
+took-more bs (refused t) e = zero-one (cc)
 
 -- no reading's tidy word is longer than any word of it
 pub record Shrinks {R : Type 0} (G : Grammar R) (F : Codec R) : Type 0 where

@@ -11,7 +11,7 @@ use native.Mathlib.Nat.{le-refl}
 use native.Mathlib.Omega.{arith}
 use borrow.Author.Tests.{leb-true}
 use lib.Dec.{leb}
-use lib.ListN.{length}
+use lib.ListN.{length, take, length-take}
 use Rattle.layout.specs.Answer.{Told, Answer, got, refused, pick, after, means, endAt, badText, bare, spanAt, fieldAt}
 use Rattle.layout.specs.Codec.{Codec, repeated}
 use Rattle.layout.specs.Refusals.{END, TEXT}
@@ -41,6 +41,10 @@ UpTo size at = at ≤ size
 
 pub up-to : {size : ℕ} (s : List ℕ) → length s ≤ size → Closed (UpTo size) s
 up-to s all at n p h = omega arith
+
+-- and so do the bytes in front of a place
+pub front-closed : {P : ℕ → Type 0} (s : List ℕ) → Closed P s → (n : ℕ) → Closed P (take n s)
+front-closed s closed n at m i j = closed at m i (omega (arith, j, length-take n s))
 
 -- a refusal that is neither 1 nor 2
 pub plainly : {A : Type 0} {P : ℕ → Type 0} (n : ℕ) → TEXT < n → Telling {A = A} P (refused (bare n))

@@ -8,7 +8,7 @@ use native.Mathlib.Nat.{zero-add}
 use native.Mathlib.Omega.{arith}
 use borrow.Author.Tests.{lt-ltb, le-ltb}
 use lib.Dec.{ltb}
-use lib.ListN.{length, take, drop, length-append, length-drop, take-append-drop}
+use lib.ListN.{length, take, drop, length-append, length-drop, length-take}
 use Rattle.layout.specs.Answer.{pick}
 use Rattle.layout.specs.Written.{Put}
 use Rattle.layout.proofs.laws.Tidied.{zero-one}
@@ -78,9 +78,6 @@ put-fronted {old} {bs} h p = (p .place ∙ zero-add (length bs), p .bytes ∙ pu
 
 -- ── how much is used ──
 
-length-take-most : (n : ℕ) (s : List ℕ) → length (take n s) ≤ length s
-length-take-most n s = omega (arith, ap length (take-append-drop n s), length-append (take n s) (drop n s))
-
 -- no more than the window has after the place
 pub used-most :
     (window : List ℕ) {out out′ : List ℕ} (s : Stand) {done : Listed} → length out ≡ size →
@@ -92,7 +89,7 @@ used-most window {out} s long l =
       arith,
       ap (λ (d : Listed). d .used) (l .answers),
       window-used (s .ended) (length out) u (s .tally .place) (s .tally .records),
-      length-take-most (s .held - s .from) (drop (s .from) window),
+      length-take (s .held - s .from) (drop (s .from) window),
       length-drop (s .from) window,
     )
 

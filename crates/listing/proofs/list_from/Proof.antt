@@ -9,13 +9,14 @@ use Rattle.layout.specs.Answer.{got, refused}
 use Rattle.layout.proofs.laws.Accepted.{accepted}
 use Rattle.layout.proofs.laws.Numbers.{bytes-of, Bytes-drop}
 use Rattle.layout.proofs.laws.Reading.{heard}
+use Rattle.layout.proofs.laws.Words.{part-from}
 use Rattle.recording.specs.Record.{recordOf, saysRecord, recordFrom}
 use Rattle.recording.proofs.laws.Rowed.{record-stands, record-small}
 use Rattle.listing.specs.Lines.{recordLine}
 use Rattle.listing.specs.Window.{lineRoom, waits, windowOf}
 use Rattle.listing.proofs.Cut.{whole-ready}
 use Rattle.listing.proofs.Fitting.{record-short, refusal-short}
-use Rattle.listing.proofs.Windows.{Goes, begins, part-from, turn, wrong, goes-out, window-full, window-waits}
+use Rattle.listing.proofs.Windows.{Goes, begins, turn, wrong, goes-out, window-full, window-waits}
 use borrow.Author.Needs.{needs}
 use Rattle.listing.proofs.list_from.Statement.{statement}
 use Rattle.listing.proofs.list_from.Tie as tie

@@ -3,8 +3,8 @@ use mathlib.Core.Path.{refl, sym}
 use borrow.Author.Needs.{needs}
 use denote.Ref.{now}
 use lib.Seq.{length-take-le}
+use Rattle.wire.proofs.laws.Formats.{own-word}
 use Rattle.panel.proofs.Sending.{tidy-done, tidy-never, sent-as}
-use Rattle.panel.proofs.Values.{own-word}
 use Rattle.panel.proofs.send.Statement.{statement}
 use Rattle.panel.proofs.send.Tie as tie
 

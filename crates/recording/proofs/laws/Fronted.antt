@@ -6,10 +6,11 @@ use mathlib.Core.List.{List, _∷_, _++_, map}
 use Prim.Native.Nat.{ℕ, _+_, _≤_, _<_}
 use native.Mathlib.Omega.{arith}
 use lib.ListN.{length, take, drop, length-drop, take-append-drop}
-use lib.Seq.{length-take-le, take-take}
+use lib.Seq.{length-take-le, take-take, take-append-le, drop-append-le}
 use Rattle.layout.specs.Answer.{Told, Answer, got, refused, means}
 use Rattle.layout.specs.Bytes.{number}
 use Rattle.layout.proofs.laws.Accepted.{Accepts, accepted}
+use Rattle.layout.proofs.laws.Reading.{drop-take}
 use Rattle.layout.proofs.laws.Tidied.{zero-one}
 use Rattle.wire.specs.Refused.{announced}
 use Rattle.wire.specs.Tests.{holds, fails, otherwise}
@@ -22,30 +23,41 @@ use Rattle.recording.specs.declared.Head.{Head}
 use Rattle.recording.proofs.Judged.{HeadSays, head-judged}
 use Rattle.recording.proofs.Lasting.{cut-says, cut-one}
 use Rattle.recording.proofs.Moved.{shifted, row-moved}
-use Rattle.recording.proofs.Placed.{Placed, record-placed, record-head, row-got, row-refused, row-enough}
-use Rattle.recording.proofs.laws.Rowed.{Stands, record-stands, uncut-same}
+use Rattle.recording.proofs.Placed.{record-head, row-got, row-refused, row-enough}
+use Rattle.recording.proofs.laws.Rowed.{Placed, record-placed, Stands, record-stands, uncut-same}
 
 -- ── a record alone ──
 
+-- a record's body, from its own bytes with others behind them
+pub body-same : (s w : List ℕ) (c : ℕ) → 6 + c ≤ length s → take c (drop 6 s) ≡ take c (drop 6 (take (6 + c) s ++ w))
+body-same s w c h =
+    let b = take (6 + c) s in
+    let long : length b ≡ 6 + c = length-take-le (6 + c) s h in
+    sym
+    (ap (take c) (drop-append-le 6 b w (omega (arith, long)))
+    ∙ take-append-le c (drop 6 b) w (omega (arith, long, length-drop 6 b))
+    ∙ ap (take c) (drop-take 6 c s)
+    ∙ take-take c c (drop 6 s) (omega arith))
+
 module _ (v : List ℕ) where
-  -- a head ends where it announces
-  head-ends : Accepts (λ h n. n ≡ announced v) (headAt v 0)
+  -- a head ends where it announces, which is within the limit
+  head-ends : Accepts (λ h n. (n ≡ announced v) × (n ≤ 6 + limit)) (headAt v 0)
   head-ends = go (head-judged v)
     where
-      go : {x : Answer Head} → HeadSays v x → Accepts (λ h n. n ≡ announced v) x
+      go : {x : Answer Head} → HeadSays v x → Accepts (λ h n. (n ≡ announced v) × (n ≤ 6 + limit)) x
       go (holds h) = tt
       go (fails a (holds h)) = tt
       go (fails a (fails b (holds h))) = tt
       go (fails a (fails b (fails c (holds h)))) = tt
       go (fails a (fails b (fails c (fails d (holds h))))) = tt
-      go (fails a (fails b (fails c (fails d (fails e otherwise))))) = refl
+      go (fails a (fails b (fails c (fails d (fails e otherwise))))) = (refl, omega arith)
 
   -- its own bytes are not cut
   own-uncut : {x : Record} {n : ℕ} → got x n ≡ recordOf v → isCut (take n v) ≡ false
   own-uncut {x} {n} e =
       let p = accepted (Placed v 0) (record-placed v 0) e in
       let long : length (take n v) ≡ n = length-take-le n v (p .within) in
-      let all : n ≡ announced v = accepted _ head-ends (accepted _ (record-head v 0) e) in
+      let all : n ≡ announced v = accepted _ head-ends (accepted _ (record-head v 0) e) .0 in
       let head : announced (take n v) ≡ announced v = ap number (take-take 4 n v (omega (arith, p .till))) in
       cut-one (take n v) (isCut (take n v)) false (cut-says (take n v) (isCut (take n v)) refl) (fails (not-cut n (omega (arith, p .till)) long (head ∙ sym all)) otherwise)
     where
@@ -63,15 +75,7 @@ module _ (v : List ℕ) where
 
 -- its body is within the limit, and the six bytes precede it
 pub record-most : (s : List ℕ) {x : Record} {n : ℕ} → got x n ≡ recordOf s → n ≤ 6 + limit
-record-most s e = accepted _ (go (head-judged s)) (accepted _ (record-head s 0) e)
-  where
-    go : {x : Answer Head} → HeadSays s x → Accepts (λ h n. n ≤ 6 + limit) x
-    go (holds h) = tt
-    go (fails a (holds h)) = tt
-    go (fails a (fails b (holds h))) = tt
-    go (fails a (fails b (fails c (holds h)))) = tt
-    go (fails a (fails b (fails c (fails d (holds h))))) = tt
-    go (fails a (fails b (fails c (fails d (fails e otherwise))))) = omega arith
+record-most s e = accepted _ (head-ends s) (accepted _ (record-head s 0) e) .1
 
 -- ── a row by its first record ──
 

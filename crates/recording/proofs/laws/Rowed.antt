@@ -2,27 +2,28 @@
 -- Assumes nothing.
 use mathlib.Core.Path.{_≡_, refl, sym, ap, _∙_}
 use mathlib.Core.Bool.{true, false}
-use mathlib.Core.Logic.{_⊎_, inl}
+use mathlib.Core.Logic.{_⊎_}
 use mathlib.Core.List.{List, [], _∷_, _++_}
 use Prim.Native.Nat.{ℕ, zero, suc, _+_, _-_, _^_, _≤_, _<_}
 use native.Mathlib.Omega.{arith}
 use borrow.Author.Tests.{eqb-true, lt-ltb, le-ltb}
-use lib.Dec.{ltb, eqb}
-use lib.ListN.{length, take, drop, length-append, length-drop, take-append-drop}
+use lib.Dec.{ltb, eqb, leb}
+use lib.ListN.{length, take, drop, length-append, length-drop, length-take}
 use lib.Seq.{length-take-le, take-append-le, drop-append-le}
-use Rattle.layout.specs.Answer.{Answer, got, refused, pick, after, means, endAt, bare}
+use Rattle.layout.specs.Answer.{Answer, got, refused, pick, after, means, endAt, bare, spanAt}
 use Rattle.layout.specs.Bytes.{Bytes, number}
 use Rattle.layout.specs.Refusals.{END, RECORD, LONG}
-use Rattle.layout.proofs.laws.Accepted.{Accepts, accepts-any, accepts-all, accepts-both, accepts-means, accepts-after, accepts-pick}
+use Rattle.layout.proofs.laws.Accepted.{Accepts, accepts-any, accepts-all, accepts-both, accepts-means, accepts-after, accepts-pick, accepts-span, accepts-field}
 use Rattle.layout.proofs.laws.Numbers.{Bytes-take}
 use Rattle.layout.proofs.laws.Tidied.{zero-one}
 use Rattle.wire.specs.Container.{containerAt}
+use Rattle.wire.specs.Places.{numAt}
 use Rattle.wire.specs.Refused.{announced, kindIn}
 use Rattle.wire.specs.Tests.{_gives_else_, holds, fails, Otherwise, otherwise}
 use Rattle.wire.proofs.laws.Contained.{Boxed, container-stands, container-small}
 use Rattle.recording.specs.Content.{Content, Record}
 use Rattle.recording.specs.Content as content
-use Rattle.recording.specs.Record.{limit, contentAt, headOf, recordAt, recordOf}
+use Rattle.recording.specs.Record.{limit, contentAt, headOf, recordAt, recordOf, begins, bodyAt, headAt}
 use Rattle.recording.specs.Row.{followed, found, recordsIn, isEnd, isCut}
 use Rattle.recording.specs.declared.Head.{Head}
 use Rattle.recording.proofs.Judged.{HeadSays, head-judged, head-one}
@@ -30,14 +31,19 @@ use Rattle.layout.proofs.laws.Told.{end-no, bare-no}
 
 -- ── where a record ends ──
 
--- after its body, which the six bytes precede
-pub record Stands (s : List ℕ) (x : Record) (n : ℕ) : Type 0 where
-  pub start : x .body .start ≡ 6
-  pub till : n ≡ 6 + x .body .count
-  pub within : n ≤ length s
+body-placed : (len kind : ℕ) (s : List ℕ) (start : ℕ) → start ≤ length s → Accepts (λ h n. (h .body .start ≡ start) × (n ≡ start + h .body .count) × (n ≤ length s)) (bodyAt len kind s start)
+unfolding bodyAt
+body-placed len kind s start h =
+    accepts-pick _ (begins len kind) _ _
+    (λ _. accepts-pick _ (leb (len - 6) limit) _ _ (λ _. accepts-means _ _ _ (spanAt start (len - 6) s start) (accepts-span start (len - 6) s start) λ _ n p. (refl, p .1, omega (arith, p .0, p .1))) (λ _. tt))
+    (λ _. tt)
 
-length-take-most : (n : ℕ) (s : List ℕ) → length (take n s) ≤ length s
-length-take-most n s = let e = ap length (take-append-drop n s) in omega (arith, length-append (take n s) (drop n s))
+pub head-placed : (s : List ℕ) (at : ℕ) → Accepts (λ h n. (h .body .start ≡ at + 6) × (n ≡ at + 6 + h .body .count) × (n ≤ length s)) (headAt s at)
+unfolding headAt
+head-placed s at =
+    accepts-after _ _ (numAt 4 s at) _ (accepts-field 4 number s at) λ len a p.
+    accepts-after _ _ (numAt 2 s a) _ (accepts-field 2 number s a) λ kind start q.
+    accepts-all _ _ (bodyAt len kind s start) (body-placed len kind s start (omega (arith, q .0, q .1))) λ h n r. (omega (arith, p .1, q .1, r .0), omega (arith, p .1, q .1, r .1), r .2)
 
 pub content-ends : (kind : ℕ) (s : List ℕ) (at : ℕ) → Accepts (λ c n. n ≡ length s) (contentAt kind s at)
 unfolding contentAt
@@ -45,24 +51,26 @@ content-ends kind s at =
     accepts-pick _ (eqb kind 3) _ _ (λ _. refl)
     (λ _. accepts-after (λ _ _. Unit {0}) _ (containerAt s at) _ (accepts-any (containerAt s at)) λ x n _. accepts-pick _ (eqb n (length s)) _ _ (λ e. eqb-true n (length s) e) (λ _. tt))
 
-pub head-stands : (s : List ℕ) → Accepts (λ h n. (h .body .start ≡ 6) × (n ≡ 6 + h .body .count) × (n ≤ length s)) (headOf s)
-head-stands s = go (head-judged s)
-  where
-    go : {x : Answer Head} → HeadSays s x → Accepts (λ h n. (h .body .start ≡ 6) × (n ≡ 6 + h .body .count) × (n ≤ length s)) x
-    go (holds h) = tt
-    go (fails a (holds h)) = tt
-    go (fails a (fails b (holds h))) = tt
-    go (fails a (fails b (fails c (holds h)))) = tt
-    go (fails a (fails b (fails c (fails d (holds h))))) = tt
-    go (fails a (fails b (fails c (fails d (fails e otherwise))))) = let six : announced s < 6 → ⊥ = λ h. c (inl h) in (refl, omega arith, omega arith)
+-- after its body, which the six bytes precede
+pub record Placed (s : List ℕ) (at : ℕ) (x : Record) (n : ℕ) : Type 0 where
+  pub start : x .body .start ≡ at + 6
+  pub till : n ≡ at + 6 + x .body .count
+  pub within : n ≤ length s
 
-pub record-stands : (s : List ℕ) → Accepts (Stands s) (recordOf s)
+pub record-placed : (s : List ℕ) (at : ℕ) → Accepts (Placed s at) (recordAt s at)
 unfolding recordAt
-record-stands s =
-    accepts-after _ _ (headOf s) _ (head-stands s) λ h end p.
+record-placed s at =
+    accepts-after _ _ (headAt s at) _ (head-placed s at) λ h end p.
     accepts-means _ _ _ (contentAt (h .kind) (take end s) (h .body .start)) (content-ends (h .kind) (take end s) (h .body .start)) λ c n e.
     let same : n ≡ end = e ∙ length-take-le end s (p .2) in
     record { start = p .0; till = same ∙ p .1; within = omega (arith, p .2) }
+
+-- of bytes that begin with it
+abbrev pub Stands : List ℕ → Record → ℕ → Type 0
+Stands s = Placed s 0
+
+pub record-stands : (s : List ℕ) → Accepts (Stands s) (recordOf s)
+record-stands s = record-placed s 0
 
 -- what it holds has numbers of four bytes, and a payload within
 abbrev pub Small : List ℕ → Content → Type 0
@@ -85,7 +93,7 @@ record-small s h =
   where
     wider : (next : ℕ) (c : Content) → Small (take next s) c → Small s c
     wider next content.note e = tt
-    wider next (content.holds x) e = (e .0, omega (arith, e .1, length-take-most next s))
+    wider next (content.holds x) e = (e .0, omega (arith, e .1, length-take next s))
 
 -- ── fuel ──
 
@@ -173,7 +181,7 @@ after-same (refused t) f g e = refl
 
 pub uncut-same : (s t : List ℕ) → isCut s ≡ false → recordOf (s ++ t) ≡ recordOf s
 unfolding recordAt
-uncut-same s t uncut = rw (head-same s t uncut) (after-same (headOf s) (filled (s ++ t)) (filled s) (accepts-all _ _ (headOf s) (head-stands s) λ h end p. rw (take-append-le end s t (p .2))))
+uncut-same s t uncut = rw (head-same s t uncut) (after-same (headOf s) (filled (s ++ t)) (filled s) (accepts-all _ _ (headOf s) (head-placed s 0) λ h end p. rw (take-append-le end s t (p .2))))
   where
     filled : List ℕ → Head → ℕ → Answer Record
     filled v h end = means (λ c. record { kind = h .kind; body = h .body; content = c }) (contentAt (h .kind) (take end v) (h .body .start))

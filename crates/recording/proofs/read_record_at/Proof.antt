@@ -5,7 +5,7 @@ use lib.Seq.{length-take-le}
 use Rattle.layout.proofs.laws.Accepted.{accepted}
 use Rattle.layout.proofs.laws.Reading.{heard, follow, stop, meant, not-meant}
 use Rattle.recording.specs.Record.{recordAt, saysReadContent, saysHead}
-use Rattle.recording.proofs.Placed.{head-placed}
+use Rattle.recording.proofs.laws.Rowed.{head-placed}
 use borrow.Author.Needs.{needs}
 use Rattle.recording.proofs.read_record_at.Statement.{statement}
 use Rattle.recording.proofs.read_record_at.Tie as tie

@@ -10,27 +10,18 @@ use borrow.Author.Tests.{le-leb, lt-leb, leb-true}
 use lib.Dec.{leb}
 use lib.ListN.{length, take, drop, getD, length-append, length-drop}
 use lib.Seq.{length-take-le, take-length}
-use Rattle.layout.specs.Answer.{Answer, Told, got, refused, bare, after, spanAt, fieldAt}
+use Rattle.layout.specs.Answer.{Answer, got, refused, bare, after, spanAt, fieldAt}
 use Rattle.layout.specs.Bytes.{Bytes, bytes, number}
 use Rattle.layout.specs.Written.{says, no, Put, roomed}
 use Rattle.layout.proofs.laws.Accepted.{Accepts, accepts-after, accepts-pick, accepts-field}
 use Rattle.layout.proofs.laws.Make.{Spanned, there, short, spanned}
 use Rattle.layout.proofs.laws.Numbers.{length-bytes, number-lt, Bytes-take, Bytes-drop}
-use Rattle.layout.proofs.laws.Tidied.{zero-one}
 use Rattle.layout.proofs.laws.Stored.{first, more}
 use Rattle.layout.specs.Refusals.{KIND, COUNT}
 use Rattle.wire.specs.Container.{isKind, headerRest, headerAt, containerAt, containerWord, containerSaid, paramBytes, commandSaid}
 use Rattle.wire.specs.Places.{numAt}
 use Rattle.wire.specs.declared.container.Command.{Command}
 use Rattle.wire.specs.declared.container.Container.{Container}
-
--- a span that is not there
-pub span-past : (field n : ℕ) (s : List ℕ) (at : ℕ) {t : Told} → refused t ≡ spanAt field n s at → length s - at < n
-span-past field n s at {t} e = go (spanAt field n s at) (spanned field n s at) e
-  where
-    go : (x : Answer (Unit {0})) → Spanned field n s at x → refused t ≡ x → length s - at < n
-    go (got u p) (there h) e = zero-one (cc)
-    go (refused u) (short h) e = h
 
 -- ── what a container's writer has to say ──
 

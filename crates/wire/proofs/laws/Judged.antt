@@ -51,6 +51,9 @@ goes-on k f x (fails n r) = fails n (f x n r)
 pub enough : {m n : ℕ} → m ≤ n → n < m → ⊥
 enough h k = omega arith
 
+pub least : {m n : ℕ} → (n < m → ⊥) → m ≤ n
+least not-less = omega arith
+
 pub least-row : {A : Type 0} {Q : A → Type 0} (m n : ℕ) (x : A) {y : A} → (m ≤ n → Q x) → (n < m gives y else Q) (pick (leb m n) x y)
 least-row {A} {Q} m n x {y} f = go (leb m n) refl
   where
@@ -111,9 +114,6 @@ pub beyond : {A B : Type 0} (at : ℕ) (d : List ℕ) {P : Answer A → Type 0} 
     ((x : Answer A) → 12 ≤ length d → 12 ≤ announced d → P x → Q (after x k)) → (x : Answer A) → HeaderTests at d P x → HeaderTests at d Q (after x k)
 beyond at d k f =
     goes-on k λ x _. goes-on k (λ x _. goes-on k (λ x _. goes-on k (λ x _. goes-on k (λ x cut. goes-on k (λ x low. f x (least cut) (least low)) x) x) x) x) x
-  where
-    least : {m n : ℕ} → (n < m → ⊥) → m ≤ n
-    least {m} {n} not-less = omega arith
 
 pub container-judged : (s : List ℕ) (at : ℕ) → ContainerSays at (drop at s) (containerAt s at)
 unfolding containerAt after

@@ -1,7 +1,7 @@
 -- The values of a description's list, against the reading's own: the k-th that `nth` answers is the reading's k-th, and steps give all of them, then the end.
 -- Assumes nothing.
 use mathlib.Core.Path.{_≡_, refl, ap, sym, _∙_, subst}
-use mathlib.Core.Bool.{Bool, true, false}
+use mathlib.Core.Bool.{Bool}
 use mathlib.Core.List.{List, [], _∷_}
 use Prim.Native.Nat.{ℕ, zero, suc, _+_, _-_, _≤_, _<_}
 use native.Mathlib.Omega.{arith}
@@ -9,11 +9,12 @@ use borrow.Author.Tests.{ne-eqb, lt-ltb, le-ltb}
 use lib.Dec.{eqb}
 use denote.Ref.{RefT, now}
 use lib.ListN.{length, take, getD}
-use Rattle.layout.specs.Answer.{Told, Answer, got, refused, pick, after, means}
+use Rattle.layout.specs.Answer.{Told, Answer, got, refused, after, means}
 use Rattle.layout.specs.Bytes.{Bytes}
 use Rattle.layout.specs.Codec.{repeated}
 use Rattle.layout.specs.Grammar.{loose}
 use Rattle.layout.proofs.laws.Make.{repeat-format, repeat-length}
+use Rattle.layout.proofs.laws.Reading.{pick-alike}
 use Rattle.layout.proofs.laws.Tidied.{zero-one}
 use Rattle.wire.specs.declared.list.Step.{Step}
 use Rattle.wire.specs.declared.list.Values.{Values}
@@ -27,7 +28,7 @@ use Rattle.wire.specs.Property.{between, valuesAt, propertyAt, valuesIn,
 use Rattle.wire.specs.List.{valueSlot, nthValue, nthIn, nthAt, placeFrom, placeOf, listAt, next, end, stepAt, saysStep, Nexts}
 use Rattle.wire.specs.Worded.{WordedValue, WordedForm, a-list, Nth, Nths, Yields, ended, yields, valuesOf}
 use Rattle.wire.proofs.Described.{located-is}
-use Rattle.wire.proofs.Formats.{value-format}
+use Rattle.wire.proofs.laws.Formats.{value-format}
 use Rattle.wire.proofs.Held.{worded, read-back, held}
 use Rattle.wire.proofs.Worded.{value-worded}
 
@@ -174,8 +175,4 @@ module _ (there : Bool) (s : List ℕ) (t : Told) (read : propertyAt there s 0 �
 
   pub steps-none : (src : RefT (List ℕ)) (l : Values) → l ≡ listAt src (placeOf there s) → (r : Step) → Nexts l r → saysStep r ≡ end
   unfolding stepAt
-  steps-none src l is r promised = promised ∙ rw (is, ap placeFrom read) (go (eqb (t .no) 0))
-    where
-      go : (b : Bool) → pick b end end ≡ end
-      go true = refl
-      go false = refl
+  steps-none src l is r promised = promised ∙ rw (is, ap placeFrom read) (pick-alike (eqb (t .no) 0) end)

@@ -1,25 +1,24 @@
 -- Code points one at a time: what is left to write after the first is what its units leave. And how long that can be.
 -- Assumes nothing.
-use mathlib.Core.Path.{_≡_, refl, ap}
+use mathlib.Core.Path.{_≡_, refl}
 use mathlib.Core.Bool.{Bool, true, false}
 use mathlib.Core.List.{List, [], _∷_, _++_}
 use Prim.Native.Nat.{ℕ, zero, suc, _+_, _-_, _*_, _/_, _%_, _≤_, _<_}
 use native.Mathlib.Nat.{not-suc-le-zero}
 use native.Mathlib.Omega.{arith}
 use borrow.Author.Tests.{eq-eqb, ne-eqb, ltb-true}
-use lib.Dec.{ltb, eqb}
+use lib.Dec.{ltb}
 use lib.ListN.{length, take, drop, length-append}
 use lib.Seq.{drop-drop}
-use Rattle.layout.specs.Answer.{Told, Answer, got, refused, pick, after, means, badText, spanAt, fieldAt}
+use Rattle.layout.specs.Answer.{Told, Answer, got, refused, pick, means}
 use Rattle.layout.specs.Bytes.{Bytes, bytes, number, cells}
 use Rattle.layout.specs.Written.{Put, roomed, spelling}
 use Rattle.layout.proofs.laws.Numbers.{Bytes-drop, bytes-number}
-use Rattle.layout.proofs.laws.Tidied.{zero-one}
 use Rattle.wire.specs.declared.Part.{Part}
-use Rattle.wire.specs.Layout.{high, paired}
-use Rattle.wire.specs.Places.{numAt, unitsAt, textAt, itemsIn}
+use Rattle.wire.specs.Layout.{high}
+use Rattle.wire.specs.Places.{textAt, itemsIn}
 use Rattle.wire.specs.Utf8.{pairPoint, points, encoded, encodedAll, utf8, utf8At, Leads}
-use Rattle.wire.proofs.Spelled.{length-cells}
+use Rattle.wire.proofs.Spelled.{length-cells, text-stood}
 use Rattle.wire.proofs.Texts.{cells-none}
 
 -- ── the first code point ──
@@ -155,12 +154,6 @@ pub utf8-few : (us : List ℕ) → length (utf8 us) ≤ 4 * length us
 unfolding utf8
 utf8-few us = omega (arith, all-few (points us), points-few us)
 
--- what came first in an answer that was got
-parted : {A B : Type 0} (x : Answer A) (k : A → ℕ → Answer B) {b : B} {n : ℕ} → got b n ≡ after x k → (a : A) × (p : ℕ) × (got a p ≡ x) × (got b n ≡ k a p)
-unfolding after
-parted (got a p) k e = (a, p, refl, e)
-parted (refused t) k e = zero-one (cc)
-
 byte-small : (s : List ℕ) → Bytes s → number (take 1 s) < 256
 unfolding number
 byte-small [] h = omega arith
@@ -168,27 +161,7 @@ byte-small (b ∷ s) h = omega (arith, h .0)
 
 -- a string has at most 254 units, for its count is one byte
 text-few : (s : List ℕ) → Bytes s → (at : ℕ) (part : Part) (n : ℕ) → got part n ≡ textAt s at → part .count ≤ 254
-unfolding textAt unitsAt fieldAt
-text-few s h at part n e =
-    let a = parted (numAt 1 s at) _ e in
-    let b = parted (spanAt at 1 s at) _ (a .2) in
-    let m : a .0 ≡ number (take 1 (drop at s)) = cc in
-    let small = byte-small (drop at s) (Bytes-drop at s h) in
-    count (a .0) (a .1) (omega arith) (eqb (a .0) 0) (a .3)
-  where
-    units : (m p q : ℕ) → m < 256 → (b : Bool) → got part n ≡ pick b (got (record { start = p; count = m - 1 }) q) (refused (badText at)) → part .count ≤ 254
-    units m p q h true e =
-        let f : part ≡ record { start = p; count = m - 1 } = cc in
-        omega (arith, ap (λ (x : Part). x .count) f)
-    units m p q h false e = zero-one (cc)
-
-    count : (m p : ℕ) → m < 256 → (b : Bool) → got part n ≡ pick b (got (record { start = p; count = 0 }) p) (unitsAt at m s p) → part .count ≤ 254
-    count m p h true e =
-        let f : part ≡ record { start = p; count = 0 } = cc in
-        omega (arith, ap (λ (x : Part). x .count) f)
-    count m p h false e =
-        let a = parted (spanAt at (m * 2) s p) _ e in
-        units m p (a .1) h (paired (cells 2 (m - 1) (drop p s))) (a .3)
+text-few s h at part n e = omega (arith, text-stood s at part n e .few, byte-small (drop at s) (Bytes-drop at s h))
 
 pub utf8-short : (s : List ℕ) → Bytes s → (at : ℕ) → length (spelling (utf8At s at)) ≤ 1016
 unfolding utf8At means

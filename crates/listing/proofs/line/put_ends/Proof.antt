@@ -5,7 +5,8 @@ use denote.Ref.{now}
 use lib.ListN.{length}
 use lib.Seq.{length-take-le}
 use Prim.Native.Nat.{_-_}
-use Rattle.listing.proofs.Ends.{behind, ends}
+use Rattle.layout.proofs.laws.Words.{part-from}
+use Rattle.listing.proofs.Ends.{ends}
 use borrow.Author.Needs.{needs}
 use Rattle.listing.proofs.line.put_ends.Statement.{statement}
 use Rattle.listing.proofs.line.put_ends.Tie as tie
@@ -17,7 +18,7 @@ returns : tie.Need-returns
 returns c =
     let k = c .before .before .before .before .before .before .before .before .before .before .before .before in
     let t = now (k .args .text) in
-    ends (k .pre .0) (k .pre .1) (c .before .before .before .before .before .before .before .put-bytes .ensures) (rw (behind t (length t - k .args .n)) at (c .before .before .put-bytes2 .ensures))
+    ends (k .pre .0) (k .pre .1) (c .before .before .before .before .before .before .before .put-bytes .ensures) (rw (part-from t (length t - k .args .n)) at (c .before .before .put-bytes2 .ensures))
 
 pub put-ends-spec : {M : Type 1} → statement M
 put-ends-spec =

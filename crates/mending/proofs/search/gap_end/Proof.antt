@@ -6,10 +6,10 @@ use native.Mathlib.Omega.{arith}
 use denote.Ref.{now}
 use lib.ListN.{length, drop}
 use Rattle.layout.proofs.laws.Reading.{heard}
+use Rattle.layout.proofs.laws.Words.{part-from}
 use Rattle.recording.specs.Record.{saysRecord}
 use Rattle.mending.specs.Window.{waits}
 use Rattle.mending.specs.Passed.{Drops, none-dropped, one-dropped, at-end, waiting, stands}
-use Rattle.mending.proofs.Searching.{part-from}
 use borrow.Author.Needs.{needs}
 use Rattle.mending.proofs.search.gap_end.Statement.{statement}
 use Rattle.mending.proofs.search.gap_end.Tie as tie

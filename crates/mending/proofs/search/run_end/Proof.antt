@@ -7,10 +7,11 @@ use lib.ListN.{length, drop, length-drop}
 use Rattle.layout.specs.Answer.{got}
 use Rattle.layout.proofs.laws.Accepted.{accepted}
 use Rattle.layout.proofs.laws.Reading.{heard}
+use Rattle.layout.proofs.laws.Words.{part-from}
 use Rattle.recording.specs.Record.{recordOf, recordFrom, saysRecord}
 use Rattle.recording.proofs.laws.Rowed.{record-stands}
 use Rattle.mending.specs.Passed.{Keeps, none-kept, one-kept, no-bytes, stands-none, no-room}
-use Rattle.mending.proofs.Searching.{part-from, row-so}
+use Rattle.mending.proofs.Searching.{row-so}
 use borrow.Author.Needs.{needs}
 use Rattle.mending.proofs.search.run_end.Statement.{statement}
 use Rattle.mending.proofs.search.run_end.Tie as tie

@@ -6,7 +6,8 @@ use lib.ListN.{length}
 use Rattle.layout.proofs.laws.Accepted.{accepted}
 use Rattle.layout.proofs.laws.Reading.{heard}
 use Rattle.recording.specs.Record.{saysHead}
-use Rattle.recording.proofs.Placed.{head-placed, Going, going, going-on, going-out, kept-stops}
+use Rattle.recording.proofs.Placed.{Going, going, going-on, going-out, kept-stops}
+use Rattle.recording.proofs.laws.Rowed.{head-placed}
 use borrow.Author.Needs.{needs}
 use Rattle.recording.proofs.copy.put_copied.Statement.{statement}
 use Rattle.recording.proofs.copy.put_copied.Tie as tie

@@ -13,7 +13,8 @@ use Rattle.recording.specs.Record.{saysRecord}
 use Rattle.recording.specs.Row.{rowFrom, rowOf, wholeOf}
 use Rattle.recording.specs.Copied.{leftBy, leftOut}
 use Rattle.recording.specs.declared.copy.Left.{Left}
-use Rattle.recording.proofs.Placed.{record-placed, rest, whole-rest, whole-none, whole-got, whole-refused, counted-least, left-turn, left-refused, left-end}
+use Rattle.recording.proofs.Placed.{rest, whole-rest, whole-none, whole-got, whole-refused, counted-least, left-turn, left-refused, left-end}
+use Rattle.recording.proofs.laws.Rowed.{record-placed}
 use Rattle.recording.proofs.Copying.{front-more}
 use borrow.Author.Needs.{needs}
 use Rattle.recording.proofs.copy.sweep.Statement.{statement}

@@ -6,10 +6,11 @@ use native.Mathlib.Omega.{arith}
 use borrow.Author.Needs.{needs}
 use borrow.Author.Tests.{lt-ltb}
 use lib.ListN.{length}
+use Rattle.layout.proofs.laws.Words.{no-bytes}
 use Rattle.layout.proofs.laws.Writing.{Owes, start, byte, end, nothing}
 use Rattle.tree.specs.Kids.{kids}
 use Rattle.tree.specs.Way.{within}
-use Rattle.tree.proofs.Scans.{rest, rest-hit, rest-miss, none-left, rest-start, rest-none}
+use Rattle.tree.proofs.Scans.{rest, rest-hit, rest-miss, rest-start, rest-none}
 use Rattle.tree.proofs.queue.add_kids.Statement.{statement}
 use Rattle.tree.proofs.queue.add_kids.Tie as tie
 
@@ -24,7 +25,7 @@ abbrev μ-loop : tie.MeasureT-loop
 returns : tie.Need-returns Inv-loop μ-loop
 returns c =
     let a = c .before .args in
-    rw (none-left (kids (a .parents .now) (within (a .parents .now)) (a .p)) (omega (arith, c .if1 .taken))) nothing
+    rw (no-bytes (kids (a .parents .now) (within (a .parents .now)) (a .p)) (omega (arith, c .if1 .taken))) nothing
 
 -- a place that is found has room
 room : (c : tie.Then2 Inv-loop μ-loop) → (c .before .before .before .loop .n < length (c .before .before .before .loop .places)) × (length (c .before .before .before .loop .places) ≡ length (c .before .before .before .before .before .args .places .now))

@@ -4,10 +4,9 @@ use borrow.Author.Tests.{le-leb, lt-leb}
 use denote.Ref.{now}
 use lib.ListN.{length}
 use Prim.Native.Nat.{_-_}
-use Rattle.layout.proofs.laws.Reading.{heard, follow, stop, span-within}
+use Rattle.layout.proofs.laws.Reading.{heard, follow, stop, span-within, span-over}
 use Rattle.wire.specs.Container.{containerAt, saysHeader}
 use Rattle.wire.specs.Says.{saysSpan}
-use Rattle.wire.proofs.laws.Contained.{span-past}
 use Rattle.wire.proofs.container.read_container.Statement.{statement}
 use Rattle.wire.proofs.container.read_container.Tie as tie
 
@@ -28,7 +27,7 @@ returns-2 c =
     let s = now (h .before .before .before .before .args .s) in
     let start = h .h .given .0 .1 .0 .at in
     let n = h .h .given .0 .0 .«payload_len» in
-    let w = span-past start n s start (heard saysSpan (c .before .enum-told .given .1) (c .before .before .before .span-at .ensures)) in
+    let w = span-over start n s start _ (heard saysSpan (c .before .enum-told .given .1) (c .before .before .before .span-at .ensures)) in
     follow _ (heard saysHeader (h .h .given .1) (h .before .before .read-header .ensures)) (rw (lt-leb n (length s - start) w, c .plain .ensures))
 
 returns-3 : tie.Need-returns-3

@@ -1,20 +1,23 @@
--- Each codec of the byte layer is faithful to its layout: one line for each way that the layout is made.
+-- Each codec of the byte layer is faithful to its layout: one line for each way that the layout is made. And what is no string has one word of each value.
 -- Assumes nothing.
-use mathlib.Core.Option.{some, none}
+use mathlib.Core.Option.{Option, some, none}
 use mathlib.Core.Path.{_≡_, refl, ap, sym, subst}
 use mathlib.Core.Bool.{Bool, true, false}
 use mathlib.Core.List.{List, [], _∷_, map}
 use Prim.Native.Nat.{ℕ, zero, suc, _+_, _-_, _^_, _<_}
 use native.Mathlib.Omega.{arith}
+use borrow.Author.Tests.{ne-eqb}
 use lib.IntN.{pos, negsuc}
 use lib.Dec.{ltb}
-use lib.ListN.{length}
+use lib.ListN.{length, getD}
 use Rattle.layout.specs.Answer.{pick, badText}
 use Rattle.layout.specs.Bytes.{bytes}
 use Rattle.layout.specs.Grammar.{loose, empty, Number, num, _then_, both, lead, such, as′, Repeat, Spare, Counted}
 use Rattle.layout.specs.Format.{Format}
 use Rattle.layout.proofs.laws.Make.{nothing-format, number-format, then-format, lead-format, such-format, as-format, field-format, repeat-format, repeat-length, spare-format, cells-format, count-format}
-use Rattle.wire.specs.Layout.{signed, Kind, sint, uint, wide, width, meaning, paired, Units, text-count, Text, Shape, one, many, string, undef, shape, Shaped, Value, Row, Form, list, no-form, Formed, form-byte, FormOf, reading, Fields, Property, Enable}
+use Rattle.layout.proofs.laws.Single.{Single, single-empty, single-number, single-as, single-counted}
+use Rattle.layout.proofs.laws.Tidied.{zero-one}
+use Rattle.wire.specs.Layout.{signed, Kind, sint, uint, wide, width, kinds, meaning, paired, Units, text-count, Text, Shape, one, many, string, undef, shape-or, shape, Val, Shaped, Value, Row, Form, list, no-form, Formed, form-byte, FormOf, reading, Fields, Property, Enable}
 use Rattle.wire.specs.Codecs.{unsigned, number-of, all-units, units, text, array, shaped, value, row, three, listed, form-write, formed, form, fields, property, enable}
 
 -- ── the number that a meaning is of ──
@@ -75,6 +78,30 @@ shape-format undef = nothing-format _
 
 pub value-format : (t : ℕ) → Format (Value t) (value t)
 value-format t = shape-format (shape t)
+
+-- ── what is no string has one word ──
+
+pub not-string : (t : ℕ) → (t ≡ 0xFFFF → ⊥) → shape t ≡ string → ⊥
+not-string t h = rw (ne-eqb t 0xFFFF h) (go (getD kinds t none) (getD kinds (t - 0x4000) none))
+  where
+    go : (a b : Option Kind) → shape-or one a (shape-or many b undef) ≡ string → ⊥
+    go (some k) b e = zero-one (cc)
+    go none (some k) e = zero-one (cc)
+    go none none e = zero-one (cc)
+
+pub shaped-single : (x : Shape) → (x ≡ string → ⊥) → Single (Shaped x)
+shaped-single (one k) h = single-as _ (single-number (width k))
+shaped-single (many k) h = single-as _ (single-counted 4 (single-number (width k)))
+shaped-single string h = absurd (h refl)
+shaped-single undef h = single-empty _
+
+-- so it is tidy
+pub value-single : (t : ℕ) → (t ≡ 0xFFFF → ⊥) → Single (Value t)
+value-single t h = shaped-single (shape t) (not-string t h)
+
+-- and is what is written of its value
+pub own-word : (t : ℕ) → (t ≡ 0xFFFF → ⊥) → (w : List ℕ) (v : Val) → Value t loose w v → w ≡ (value t) .write v
+own-word t h w v g = (value-format t) .one (value-single t h w v g)
 
 -- ── records ──
 
