@@ -6,12 +6,14 @@ use mathlib.Core.Option.{Option, some, none}
 use Prim.Native.Nat.{ℕ, _+_, _*_, _%_, _^_}
 use Rattle.recording.specs.Content.{Content, Record}
 use Rattle.recording.specs.Content as content
+use Rattle.session.specs.Payloads.{storagePayload}
 use Rattle.session.specs.Search.{Reply, payload, response}
+use Rattle.layout.specs.Answer.{Answer, got, pick}
 use Rattle.layout.specs.Written.{Said, says}
 use Rattle.wire.specs.Codecs.{unsigned}
-use Rattle.wire.specs.Layout.{int, nat, pair}
+use Rattle.wire.specs.Layout.{int, nat, pair, storage}
 use Rattle.wire.specs.List.{Stepped, next, end}
-use Rattle.wire.specs.Places.{Located, number-is, items, units, empty}
+use Rattle.wire.specs.Places.{Located, number-is, items, units, empty, filledAt, rowAt}
 use Rattle.wire.specs.declared.Part.{Part}
 use Rattle.wire.specs.declared.container.Container.{Container}
 use Rattle.wire.specs.declared.later.Chosen.{Chosen}
@@ -35,6 +37,14 @@ fieldRow empty = []
 abbrev pub fieldsRow : List Located → List ℕ
 fieldsRow [] = []
 fieldsRow (l ∷ ls) = fieldRow l ++ fieldsRow ls
+
+-- where a record ends: anywhere, or where it must fill its payload at the end of the bytes, else 3
+abbrev pub endOf : Bool → List ℕ → ℕ → Answer (Unit {0})
+endOf filling s at = pick filling (filledAt s at) (got tt at)
+
+-- a storage record that begins the bytes, or must fill them
+abbrev pub storageAnswer : Bool → List ℕ → Answer (List Located)
+storageAnswer filling s = pick filling (storagePayload s) (rowAt storage s 0)
 
 -- 0: no form; 1: minimum, maximum and step; 2: the bytes of all values of a list, and how many values they are
 abbrev pub formRow : Form → List ℕ

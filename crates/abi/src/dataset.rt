@@ -7,9 +7,10 @@ ghost use Rattle.wire.specs.Layout.{device, object, storage};
 ghost use Rattle.wire.specs.Object.{objectFields};
 ghost use Rattle.wire.specs.Places.{rowAt};
 ghost use Rattle.wire.specs.Property.{propertyAt, hasEnable, saysEnable, saysForm, infoFrom};
+ghost use Rattle.wire.specs.Says.{saysSpan};
 ghost use Rattle.wire.specs.Storage.{storageFields};
 ghost use Rattle.abi.specs.Answered.{Gives, given};
-ghost use Rattle.abi.specs.Rows.{layoutOf, enableNumber, fieldsRow, formRow, propRow};
+ghost use Rattle.abi.specs.Rows.{layoutOf, enableNumber, fieldsRow, formRow, propRow, endOf, storageAnswer};
 use crate::answer;
 use layout::Written;
 use wire::Cursor;
@@ -23,6 +24,7 @@ use wire::ReadDevice;
 use wire::ReadObject;
 use wire::ReadProperty;
 use wire::ReadStorage;
+use wire::Span;
 use wire::StorageInfo;
 
 fn device_row(x: DeviceInfo, len: usize) -> [u64; 25]
@@ -120,7 +122,7 @@ pub extern "C" fn ptp_object_info(s: &[u8], out: &mut [u64]) -> u64
     answer::told(give_object(s, out))
 }
 
-pub(crate) fn storage_row(x: StorageInfo, len: usize) -> [u64; 11]
+fn storage_row(x: StorageInfo, len: usize) -> [u64; 11]
     ensures { λ r. ⌜ r ≡ len ∷ fieldsRow (storageFields x) ⌝ }
 {
     [
@@ -138,20 +140,41 @@ pub(crate) fn storage_row(x: StorageInfo, len: usize) -> [u64; 11]
     ]
 }
 
-fn give_storage(s: &[u8], out: &mut [u64]) -> Written
-    ensures { λ r. ⌜ Wrote (given fieldsRow (rowAt storage (now (s .entry)) 0)) (now (out .entry)) (saysWritten r) (now (out .exit)) ⌝ }
+// Where a record ends; 3 where it must fill its payload and does not.
+fn ending(s: &[u8], next: Cursor, filling: bool) -> Span
+    ensures { λ r. ⌜ saysSpan r ≡ endOf «filling» (now (s .entry)) (next .at) ⌝ }
 {
-    match wire::storage_info(s, Cursor { at: 0 }) {
-        ReadStorage::Got(x, next) => answer::give(&storage_row(x, next.at), out),
+    if filling {
+        return next.end(s);
+    }
+    Span::Till(next)
+}
+
+fn give_storage(s: &[u8], filling: bool, out: &mut [u64]) -> Written
+    ensures { λ r. ⌜ Wrote (given fieldsRow (storageAnswer «filling» (now (s .entry)))) (now (out .entry)) (saysWritten r) (now (out .exit)) ⌝ }
+{
+    match wire::storage_info(&*s, Cursor { at: 0 }) {
+        ReadStorage::Got(x, next) => match ending(&*s, next, filling) {
+            Span::Till(end) => answer::give(&storage_row(x, end.at), out),
+            Span::Refused(f) => Written::Refused(f),
+        },
         ReadStorage::Refused(f) => Written::Refused(f),
     }
+}
+
+// Both exported functions ask here, so that the reader stands at one place: the compiler puts it there whole. The slice is lent on anew (`&*s`),
+// and so is handed on in registers.
+pub(crate) fn storage(s: &[u8], filling: bool, out: &mut [u64]) -> u64
+    ensures { λ r. ⌜ Gives (given fieldsRow (storageAnswer «filling» (now (s .entry)))) (now (out .entry)) r (now (out .exit)) ⌝ }
+{
+    answer::told(give_storage(&*s, filling, out))
 }
 
 #[no_mangle]
 pub extern "C" fn ptp_storage_info(s: &[u8], out: &mut [u64]) -> u64
     ensures { λ r. ⌜ Gives (given fieldsRow (rowAt storage (now (s .entry)) 0)) (now (out .entry)) r (now (out .exit)) ⌝ }
 {
-    answer::told(give_storage(s, out))
+    storage(&*s, false, out)
 }
 
 // The form, and three parts: those of a range; or a list's bytes and the count of its values.

@@ -7,7 +7,6 @@ use crate::answer;
 use crate::dataset;
 use layout::Written;
 use wire::ReadPart;
-use wire::ReadStorage;
 use wire::ReadU32;
 
 fn give_handles(s: &[u8], out: &mut [u64]) -> Written
@@ -47,19 +46,10 @@ pub extern "C" fn ptp_object_count(s: &[u8], out: &mut [u64]) -> u64
     answer::told(give_count(s, out))
 }
 
-fn give_filling(s: &[u8], out: &mut [u64]) -> Written
-    ensures { λ r. ⌜ Wrote (given fieldsRow (storagePayload (now (s .entry)))) (now (out .entry)) (saysWritten r) (now (out .exit)) ⌝ }
-{
-    match session::storage_info(s) {
-        ReadStorage::Got(x, next) => answer::give(&dataset::storage_row(x, next.at), out),
-        ReadStorage::Refused(f) => Written::Refused(f),
-    }
-}
-
 // A storage record that fills the bytes, as `ptp_storage_info` gives it.
 #[no_mangle]
 pub extern "C" fn ptp_storage_payload(s: &[u8], out: &mut [u64]) -> u64
     ensures { λ r. ⌜ Gives (given fieldsRow (storagePayload (now (s .entry)))) (now (out .entry)) r (now (out .exit)) ⌝ }
 {
-    answer::told(give_filling(s, out))
+    dataset::storage(&*s, true, out)
 }

@@ -10,6 +10,7 @@ use crate::Span;
 use crate::field;
 use crate::kind;
 use crate::kind::Shape;
+use crate::value;
 use crate::value::ReadValue;
 
 // n values of one type, a value at a time.
@@ -19,7 +20,7 @@ fn past_each(code: u16, n: usize, src: &[u8], first: usize) -> Span
     let mut at = first;
     let mut left = n;
     while 0 < left {
-        match (Cursor { at }).value(src, code) {
+        match value::shape_value(&*src, Cursor { at }, kind::shape_of(code)) {
             ReadValue::Refused(f) => return Span::Refused(f),
             ReadValue::Got(_, next) => {
                 at = next.at;

@@ -1,10 +1,10 @@
 // Strings in UTF-8: read, measured, then put. Those of ASCII alone, which most are, go by loops that take many units at once.
 ghost use mathlib.Core.Path.{_≡_};
-ghost use Prim.Native.Nat.{_-_, _*_, _≤_, _<_};
+ghost use Prim.Native.Nat.{_+_, _-_, _*_, _≤_, _<_};
 ghost use lib.Dec.{leb};
 ghost use lib.ListN.{length, drop};
 ghost use Rattle.layout.specs.Answer.{means};
-ghost use Rattle.layout.specs.Bytes.{number, cells};
+ghost use Rattle.layout.specs.Bytes.{cells};
 ghost use Rattle.layout.specs.Written.{Put, Wrote, saidOf, spelling, roomed, saysWritten};
 ghost use Rattle.wire.specs.Tidy.{saysMeasured};
 ghost use Rattle.wire.specs.Utf8.{encoded, utf8, utf8At, Leads, NoneAbove};
@@ -27,14 +27,14 @@ fn point_at(s: &[u8], at: usize, left: usize) -> Point
     requires { ⌜ (0 < left) × (left * 2 ≤ length (now s) - at) ⌝ }
     ensures { λ r. ⌜ Leads (now (s .entry)) at left r ⌝ }
 {
-    let u = field::word(s, at, 2);
+    let u = text::unit_at(&*s, at) as u64;
     if u / 1024 != 54 {
         return Point { value: u, units: 1 };
     }
     if left == 1 {
         return Point { value: u, units: 1 };
     }
-    let v = field::word(s, at + 2, 2);
+    let v = text::unit_at(&*s, at + 2) as u64;
     Point {
         value: 65536 + u % 1024 * 1024 + v % 1024,
         units: 2,
@@ -53,37 +53,33 @@ fn point_len(c: u64) -> usize
     if c < 0x10000 { 3 } else { 4 }
 }
 
-// The bytes of a code point as one number, the first byte lowest.
-fn point_bytes(c: u64) -> u64
-    requires { ⌜ c < 0x110000 ⌝ }
-    ensures { λ r. ⌜ r ≡ number (encoded c) ⌝ }
+// The caller saw to the room: no byte is tested for it.
+fn put_point(c: u64, out: &mut [u8], o: usize) -> usize
+    requires { ⌜ (c < 0x110000) × (length (encoded c) ≤ length (now out) - o) ⌝ }
+    ensures { λ r. ⌜ Put (now (out .entry)) o (encoded c) (now (out .exit)) r ⌝ }
 {
     if c < 0x80 {
-        return c;
+        out[o] = c as u8;
+        return o + 1;
     }
-    let last = 0x80 + c % 64;
+    let last = (0x80 + c % 64) as u8;
     if c < 0x800 {
-        return 0xC0 + c / 64 + 0x100 * last;
+        out[o] = (0xC0 + c / 64) as u8;
+        out[o + 1] = last;
+        return o + 2;
     }
-    let third = 0x80 + c / 64 % 64;
+    let third = (0x80 + c / 64 % 64) as u8;
     if c < 0x10000 {
-        return 0xE0 + c / 4096 + 0x100 * third + 0x10000 * last;
+        out[o] = (0xE0 + c / 4096) as u8;
+        out[o + 1] = third;
+        out[o + 2] = last;
+        return o + 3;
     }
-    0xF0 + c / 262144 + 0x100 * (0x80 + c / 4096 % 64) + 0x10000 * third + 0x1000000 * last
-}
-
-// Each length has a store of its own, whose loop the compiler unrolls.
-fn put_point(c: u64, out: &mut [u8], o: usize) -> usize
-    requires { ⌜ c < 0x110000 ⌝ }
-    ensures { λ r. ⌜ Put (now (out .entry)) o (roomed (now (out .entry)) o (encoded c)) (now (out .exit)) r ⌝ }
-{
-    let x = point_bytes(c);
-    match point_len(c) {
-        1 => layout::store(out, o, 1, x),
-        2 => layout::store(out, o, 2, x),
-        3 => layout::store(out, o, 3, x),
-        n => layout::store(out, o, n, x),
-    }
+    out[o] = (0xF0 + c / 262144) as u8;
+    out[o + 1] = (0x80 + c / 4096 % 64) as u8;
+    out[o + 2] = third;
+    out[o + 3] = last;
+    o + 4
 }
 
 fn units_len(s: &[u8], start: usize, count: usize) -> usize
@@ -121,7 +117,20 @@ fn has_room(s: &[u8], start: usize, count: usize, out: &[u8], o: usize) -> bool
     false
 }
 
-// Units below 0x80: of each its low byte. The high one is 0, and added so that the loop reads all bytes: then the compiler takes many units at once.
+fn lesser(a: u16, b: u16) -> u16
+    ensures { λ r. ⌜ (r ≤ b) × (a ≤ b → r ≡ a) ⌝ }
+{
+    if a < b { a } else { b }
+}
+
+// A unit below 0x80 is its own low byte. The least of it and 0x7F is taken so that the compiler keeps whole units, and takes sixteen at a time.
+fn ascii_of(u: u16) -> u8
+    ensures { λ r. ⌜ (u ≤ 0x7F → r ≡ u) ⌝ }
+{
+    lesser(u, 0x7F) as u8
+}
+
+// Units below 0x80, of each its byte.
 fn put_ascii(s: &[u8], start: usize, count: usize, out: &mut [u8], o: usize) -> usize
     requires { ⌜ count * 2 ≤ length (now s) - start ⌝ }
     requires { ⌜ NoneAbove 0x7F (cells 2 count (drop start (now s))) ⌝ }
@@ -132,7 +141,7 @@ fn put_ascii(s: &[u8], start: usize, count: usize, out: &mut [u8], o: usize) -> 
     let mut left = count;
     let mut next = o;
     while 0 < left {
-        out[next] = s[at] + s[at + 1];
+        out[next] = ascii_of(text::unit_of(s[at], s[at + 1]));
         at += 2;
         left -= 1;
         next += 1;
@@ -140,6 +149,39 @@ fn put_ascii(s: &[u8], start: usize, count: usize, out: &mut [u8], o: usize) -> 
     next
 }
 
+// The units below 0x80 that stand first, which are their own UTF-8: how many they are.
+fn put_run(s: &[u8], at: usize, left: usize, out: &mut [u8], o: usize) -> usize
+    requires { ⌜ left * 2 ≤ length (now s) - at ⌝ }
+    requires { ⌜ length (utf8 (cells 2 left (drop at (now s)))) ≤ length (now out) - o ⌝ }
+    ensures { λ r. ⌜ (r ≤ left) × NoneAbove 0x7F (cells 2 r (drop at (now (s .entry)))) ⌝ }
+    ensures { λ r. ⌜ Put (now (out .entry)) o (cells 2 r (drop at (now (s .entry)))) (now (out .exit)) (o + r) ⌝ }
+{
+    let mut n: usize = 0;
+    while n < left {
+        let u = text::unit_of(s[at + 2 * n], s[at + 2 * n + 1]);
+        if u >= 0x80 {
+            return n;
+        }
+        out[o + n] = u as u8;
+        n += 1;
+    }
+    n
+}
+
+// The run that stands after a code point, where that was below 0x80; else none is looked for.
+fn put_run_after(c: u64, s: &[u8], at: usize, left: usize, out: &mut [u8], o: usize) -> usize
+    requires { ⌜ left * 2 ≤ length (now s) - at ⌝ }
+    requires { ⌜ length (utf8 (cells 2 left (drop at (now s)))) ≤ length (now out) - o ⌝ }
+    ensures { λ r. ⌜ (r ≤ left) × NoneAbove 0x7F (cells 2 r (drop at (now (s .entry)))) ⌝ }
+    ensures { λ r. ⌜ Put (now (out .entry)) o (cells 2 r (drop at (now (s .entry)))) (now (out .exit)) (o + r) ⌝ }
+{
+    if c < 0x80 {
+        return put_run(&*s, at, left, out, o);
+    }
+    0
+}
+
+// A code point, then the run that stands after it. `&*s` lends the slice on anew, so that the compiler keeps it in registers.
 fn put_units(s: &[u8], start: usize, count: usize, out: &mut [u8], o: usize) -> usize
     requires { ⌜ count * 2 ≤ length (now s) - start ⌝ }
     requires { ⌜ length (utf8 (cells 2 count (drop start (now s)))) ≤ length (now out) - o ⌝ }
@@ -152,12 +194,16 @@ fn put_units(s: &[u8], start: usize, count: usize, out: &mut [u8], o: usize) -> 
     let mut left = count;
     let mut next = o;
     while 0 < left {
-        let p = point_at(s, at, left);
+        let p = point_at(&*s, at, left);
         let value = p.value;
         let units = p.units;
         next = put_point(value, out, next);
         at += units * 2;
         left -= units;
+        let run = put_run_after(value, &*s, at, left, out, next);
+        at += run * 2;
+        left -= run;
+        next += run;
     }
     next
 }

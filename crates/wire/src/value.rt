@@ -3,7 +3,7 @@ ghost use mathlib.Core.Path.{_≡_};
 ghost use Prim.Native.Nat.{_+_, _≤_, _^_};
 ghost use Rattle.wire.specs.Layout.{one, sint, uint, wide};
 ghost use Rattle.wire.specs.Places.{shapeAt, valueAt, unitAt, itemOf, itemAt, filledAt};
-ghost use Rattle.wire.specs.Says.{saysKind, saysValue, saysSpan, saysU16};
+ghost use Rattle.wire.specs.Says.{saysKind, saysShape, saysValue, saysSpan, saysU16};
 use crate::Cursor;
 use crate::Number;
 use crate::Pair;
@@ -67,36 +67,48 @@ fn number_value(s: &[u8], at: usize, k: Kind) -> ReadValue
     ensures { λ r. ⌜ saysValue r ≡ shapeAt (one (saysKind k)) (now (s .entry)) at ⌝ }
 {
     match k {
-        Kind::I8 => int_value(s, at, 1, 0x80),
-        Kind::U8 => nat_value(s, at, 1),
-        Kind::I16 => int_value(s, at, 2, 0x8000),
-        Kind::U16 => nat_value(s, at, 2),
-        Kind::I32 => int_value(s, at, 4, 0x8000_0000),
-        Kind::U32 => nat_value(s, at, 4),
-        Kind::I64 => int_value(s, at, 8, 0x8000_0000_0000_0000),
-        Kind::U64 => nat_value(s, at, 8),
-        Kind::I128 => wide_value(s, at),
-        Kind::U128 => wide_value(s, at),
+        Kind::I8 => int_value(&*s, at, 1, 0x80),
+        Kind::U8 => nat_value(&*s, at, 1),
+        Kind::I16 => int_value(&*s, at, 2, 0x8000),
+        Kind::U16 => nat_value(&*s, at, 2),
+        Kind::I32 => int_value(&*s, at, 4, 0x8000_0000),
+        Kind::U32 => nat_value(&*s, at, 4),
+        Kind::I64 => int_value(&*s, at, 8, 0x8000_0000_0000_0000),
+        Kind::U64 => nat_value(&*s, at, 8),
+        Kind::I128 => wide_value(&*s, at),
+        Kind::U128 => wide_value(&*s, at),
+    }
+}
+
+// A value by the shape of its type.
+pub(crate) fn shape_value(s: &[u8], c: Cursor, x: Shape) -> ReadValue
+    ensures { λ r. ⌜ saysValue r ≡ shapeAt (saysShape x) (now (s .entry)) (c .at) ⌝ }
+{
+    let at = c.at;
+    match x {
+        Shape::One(k) => number_value(&*s, at, k),
+        Shape::Many(k) => match array::array_at(&*s, at, kind::width_of(k)) {
+            ReadPart::Got(p, next) => ReadValue::Got(Value::Items(p), next),
+            ReadPart::Refused(f) => ReadValue::Refused(f),
+        },
+        Shape::Text => match c.text(&*s) {
+            ReadPart::Got(p, next) => ReadValue::Got(Value::Text(p), next),
+            ReadPart::Refused(f) => ReadValue::Refused(f),
+        },
+        Shape::Undef => ReadValue::Got(Value::Undef, c),
     }
 }
 
 impl Cursor {
-    // Every code that is not known takes no bytes.
+    // Every code that is not known takes no bytes. Numbers, which most values are, go by themselves: so the compiler puts this where it is used.
     pub fn value(self, s: &[u8], code: u16) -> ReadValue
         ensures { λ r. ⌜ saysValue r ≡ valueAt code (now (s .entry)) (self .at) ⌝ }
     {
         let at = self.at;
-        match kind::shape_of(code) {
-            Shape::One(k) => number_value(s, at, k),
-            Shape::Many(k) => match array::array_at(s, at, kind::width_of(k)) {
-                ReadPart::Got(p, next) => ReadValue::Got(Value::Items(p), next),
-                ReadPart::Refused(f) => ReadValue::Refused(f),
-            },
-            Shape::Text => match self.text(s) {
-                ReadPart::Got(p, next) => ReadValue::Got(Value::Text(p), next),
-                ReadPart::Refused(f) => ReadValue::Refused(f),
-            },
-            Shape::Undef => ReadValue::Got(Value::Undef, self),
+        let x = kind::shape_of(code);
+        match x {
+            Shape::One(k) => number_value(&*s, at, k),
+            _ => shape_value(&*s, self, x),
         }
     }
 

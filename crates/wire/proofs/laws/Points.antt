@@ -1,19 +1,20 @@
--- Code points one at a time: what is left to write after the first is what its units leave. And how long that can be.
+-- Code points one at a time: what is left to write after the first is what its units leave. How long that can be. And its bytes.
 -- Assumes nothing.
 use mathlib.Core.Path.{_≡_, refl}
 use mathlib.Core.Bool.{Bool, true, false}
 use mathlib.Core.List.{List, [], _∷_, _++_}
 use Prim.Native.Nat.{ℕ, zero, suc, _+_, _-_, _*_, _/_, _%_, _≤_, _<_}
 use native.Mathlib.Nat.{not-suc-le-zero}
+use native.Mathlib.Numerals.{add-one}
 use native.Mathlib.Omega.{arith}
-use borrow.Author.Tests.{eq-eqb, ne-eqb, ltb-true}
+use borrow.Author.Tests.{eq-eqb, ne-eqb, lt-ltb, le-ltb}
 use lib.Dec.{ltb}
-use lib.ListN.{length, take, drop, length-append}
+use lib.ListN.{length, take, drop, set, length-append}
 use lib.Seq.{drop-drop}
 use Rattle.layout.specs.Answer.{Told, Answer, got, refused, pick, means}
-use Rattle.layout.specs.Bytes.{Bytes, bytes, number, cells}
-use Rattle.layout.specs.Written.{Put, roomed, spelling}
-use Rattle.layout.proofs.laws.Numbers.{Bytes-drop, bytes-number}
+use Rattle.layout.specs.Bytes.{Bytes, number, cells}
+use Rattle.layout.specs.Written.{put, Put, spelling}
+use Rattle.layout.proofs.laws.Numbers.{Bytes-drop}
 use Rattle.wire.specs.declared.Part.{Part}
 use Rattle.wire.specs.Layout.{high}
 use Rattle.wire.specs.Places.{textAt, itemsIn}
@@ -70,45 +71,32 @@ three-bytes c = (0xE0 + c / 4096) ∷ (0x80 + c / 64 % 64) ∷ (0x80 + c % 64) �
 abbrev four-bytes : ℕ → List ℕ
 four-bytes c = (0xF0 + c / 262144) ∷ (0x80 + c / 4096 % 64) ∷ (0x80 + c / 64 % 64) ∷ (0x80 + c % 64) ∷ []
 
-data Encoded (c : ℕ) : List ℕ → Type 0 where
-  one : c < 0x80 → Encoded c (c ∷ [])
-  two : c < 0x800 → Encoded c (two-bytes c)
-  three : c < 0x10000 → Encoded c (three-bytes c)
-  four : Encoded c (four-bytes c)
-
-encoding : (c : ℕ) → Encoded c (encoded c)
-unfolding encoded
-encoding c = go (ltb c 0x80) (ltb c 0x800) (ltb c 0x10000) (ltb-true c 0x80) (ltb-true c 0x800) (ltb-true c 0x10000)
-  where
-    go : (x y z : Bool) → (x ≡ true → c < 0x80) → (y ≡ true → c < 0x800) → (z ≡ true → c < 0x10000)
-        → Encoded c (pick x (c ∷ []) (pick y (two-bytes c) (pick z (three-bytes c) (four-bytes c))))
-    go true y z f g h = one (f refl)
-    go false true z f g h = two (g refl)
-    go false false true f g h = three (h refl)
-    go false false false f g h = four
-
 pub encoded-few : (c : ℕ) → length (encoded c) ≤ 4
-encoded-few c = go (encoding c)
+unfolding encoded
+encoded-few c = go (ltb c 0x80) (ltb c 0x800) (ltb c 0x10000)
   where
-    go : {l : List ℕ} → Encoded c l → length l ≤ 4
-    go (one h) = omega arith
-    go (two h) = omega arith
-    go (three h) = omega arith
-    go four = omega arith
+    go : (x y z : Bool) → length (pick x (c ∷ []) (pick y (two-bytes c) (pick z (three-bytes c) (four-bytes c)))) ≤ 4
+    go true y z = omega arith
+    go false true z = omega arith
+    go false false true = omega arith
+    go false false false = omega arith
 
--- as a number and back
-encoded-stored : (c : ℕ) → c < 0x110000 → bytes (length (encoded c)) (number (encoded c)) ≡ encoded c
-encoded-stored c small = bytes-number (encoded c) (go (encoding c))
-  where
-    go : {l : List ℕ} → Encoded c l → Bytes l
-    go (one h) = (omega arith, tt)
-    go (two h) = (omega arith, (omega arith, tt))
-    go (three h) = (omega arith, (omega arith, (omega arith, tt)))
-    go four = (omega arith, (omega arith, (omega arith, (omega arith, tt))))
+module _ (c : ℕ) where
+  pub one-is : c < 0x80 → encoded c ≡ c ∷ []
+  unfolding encoded
+  one-is h = rw (lt-ltb c 0x80 h)
 
-pub point-put : {old new : List ℕ} {o next k x : ℕ} (c : ℕ) → c < 0x110000 → k ≡ length (encoded c) → x ≡ number (encoded c)
-    → Put old o (roomed old o (bytes k x)) new next → Put old o (roomed old o (encoded c)) new next
-point-put c small e f p = rw (e, f, encoded-stored c small) at p
+  pub two-is : 0x80 ≤ c → c < 0x800 → encoded c ≡ two-bytes c
+  unfolding encoded
+  two-is g h = rw (le-ltb c 0x80 g, lt-ltb c 0x800 h)
+
+  pub three-is : 0x800 ≤ c → c < 0x10000 → encoded c ≡ three-bytes c
+  unfolding encoded
+  three-is g h = rw (le-ltb c 0x80 (omega arith), le-ltb c 0x800 g, lt-ltb c 0x10000 h)
+
+  pub four-is : 0x10000 ≤ c → encoded c ≡ four-bytes c
+  unfolding encoded
+  four-is g = rw (le-ltb c 0x80 (omega arith), le-ltb c 0x800 (omega arith), le-ltb c 0x10000 g)
 
 -- ── what is left to write ──
 
@@ -170,3 +158,28 @@ utf8-short s h at = go (textAt s at) (text-few s h at)
     go : (x : Answer Part) → ((part : Part) (n : ℕ) → got part n ≡ x → part .count ≤ 254) → length (spelling (means (λ p. utf8 (itemsIn 2 s p)) x)) ≤ 1016
     go (got p n) f = omega (arith, f p n refl, utf8-few (itemsIn 2 s p), length-cells 2 (p .count) (drop (p .start) s))
     go (refused t) f = omega arith
+
+-- ── a code point's bytes, stored one after the other ──
+
+module _ (out : List ℕ) (o c : ℕ) where
+  pub one-put : c < 0x80 → Put out o (encoded c) (set out o c) (o + 1)
+  unfolding put
+  one-put h = rw (one-is c h) (record { bytes = refl; place = refl })
+
+  pub two-put : 0x80 ≤ c → c < 0x800 → Put out o (encoded c) (set (set out o (0xC0 + c / 64)) (o + 1) (0x80 + c % 64)) (o + 2)
+  unfolding put
+  two-put g h = rw (two-is c g h) (record { bytes = rw add-one; place = refl })
+
+  pub three-put : 0x800 ≤ c → c < 0x10000 → Put out o (encoded c) (set (set (set out o (0xE0 + c / 4096)) (o + 1) (0x80 + c / 64 % 64)) (o + 2) (0x80 + c % 64)) (o + 3)
+  unfolding put
+  three-put g h =
+      let two : o + 2 ≡ suc (suc o) = omega arith in
+      rw (three-is c g h) (record { bytes = rw (add-one, two); place = refl })
+
+  pub four-put : 0x10000 ≤ c
+      → Put out o (encoded c) (set (set (set (set out o (0xF0 + c / 262144)) (o + 1) (0x80 + c / 4096 % 64)) (o + 2) (0x80 + c / 64 % 64)) (o + 3) (0x80 + c % 64)) (o + 4)
+  unfolding put
+  four-put g =
+      let two : o + 2 ≡ suc (suc o) = omega arith in
+      let three : o + 3 ≡ suc (suc (suc o)) = omega arith in
+      rw (four-is c g) (record { bytes = rw (add-one, two, three); place = refl })

@@ -4,6 +4,7 @@ use Prim.Native.Nat.{suc, _-_}
 use native.Mathlib.Omega.{arith}
 use denote.Ref.{now}
 use Rattle.layout.proofs.laws.Reading.{heard}
+use Rattle.wire.specs.Places.{shapeAt}
 use Rattle.wire.specs.Property.{passedAt}
 use Rattle.wire.specs.Says.{saysValue}
 use Rattle.wire.proofs.Passed.{passed-none, passed-more, passed-bad}
@@ -19,18 +20,18 @@ abbrev μ-loop : tie.MeasureT-loop
 
 returns : tie.Need-returns Inv-loop μ-loop
 returns c =
-    let a = c .before .before .before .before .before .before .before .args in
-    let l = c .before .before .before .before .before .loop in
-    let less : l .left ≡ suc (l .left - 1) = omega (arith, c .before .before .before .before .loop-test .taken) in
-    let e = heard saysValue (c .before .f .given .1) (c .before .before .before .value .ensures) in
+    let a = c .before .before .before .before .before .before .before .before .args in
+    let l = c .before .before .before .before .before .before .loop in
+    let less : l .left ≡ suc (l .left - 1) = omega (arith, c .before .before .before .before .before .loop-test .taken) in
+    let e = heard saysValue (c .before .f .given .1) (c .before .before .before .shape-value .ensures ∙ ap (λ x. shapeAt x (now (a .src)) (l .at)) (c .before .before .before .before .shape-of .ensures)) in
     sym (passed-bad (a .code) (now (a .src)) (l .left - 1) (l .at) _ e) ∙ ap (λ k. passedAt (a .code) k (now (a .src)) (l .at)) (sym less) ∙ l .inv
 
 loop-again : tie.Need-loop-again Inv-loop μ-loop
 loop-again c =
-    let a = c .before .before .before .before .before .before .before .args in
-    let l = c .before .before .before .before .before .loop in
-    let less : l .left ≡ suc (l .left - 1) = omega (arith, c .before .before .before .before .loop-test .taken) in
-    let e = heard saysValue (c .before .next .given .1) (c .before .before .before .value .ensures) in
+    let a = c .before .before .before .before .before .before .before .before .args in
+    let l = c .before .before .before .before .before .before .loop in
+    let less : l .left ≡ suc (l .left - 1) = omega (arith, c .before .before .before .before .before .loop-test .taken) in
+    let e = heard saysValue (c .before .next .given .1) (c .before .before .before .shape-value .ensures ∙ ap (λ x. shapeAt x (now (a .src)) (l .at)) (c .before .before .before .before .shape-of .ensures)) in
     sym (passed-more (a .code) (now (a .src)) (l .left - 1) (l .at) _ _ e) ∙ ap (λ k. passedAt (a .code) k (now (a .src)) (l .at)) (sym less) ∙ l .inv
 
 returns-2 : tie.Need-returns-2 Inv-loop μ-loop
@@ -47,6 +48,7 @@ past-each-spec =
     Inv-loop
     μ-loop
     (λ c. search needs)
+    (λ c κs. search needs)
     (λ c κs. search needs)
     (λ c. search needs)
     returns

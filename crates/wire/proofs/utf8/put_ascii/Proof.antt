@@ -1,13 +1,14 @@
--- `wire::utf8::put_ascii`: the loop owes the units that are left, each of which is the sum of its bytes. Assumes nothing.
-use mathlib.Core.Path.{_≡_, refl}
+-- `wire::utf8::put_ascii`: the loop owes the units that are left, each of which is its own byte. Assumes nothing.
+use mathlib.Core.Path.{_≡_, refl, _∙_}
 use Prim.Native.Nat.{_≤_, _<_, _+_, _*_}
 use native.Mathlib.Omega.{arith}
+use borrow.Author.Needs.{needs}
 use lib.ListN.{length, drop}
 use Rattle.layout.specs.Bytes.{cells}
 use Rattle.layout.proofs.laws.Writing.{Owes, start, byte, end}
 use Rattle.wire.specs.Utf8.{NoneAbove}
 use Rattle.wire.proofs.Texts.{cells-none}
-use Rattle.wire.proofs.Small.{ascii-byte, ascii-cons, ascii-rest, ascii-utf8}
+use Rattle.wire.proofs.Small.{unit-cons, ascii-byte, ascii-rest, ascii-utf8}
 use Rattle.wire.proofs.utf8.put_ascii.Statement.{statement}
 use Rattle.wire.proofs.utf8.put_ascii.Tie as tie
 
@@ -18,22 +19,19 @@ Inv-loop s start count out₀ o at₀ left₀ next₀ out at left next =
 abbrev μ-loop : tie.MeasureT-loop
 μ-loop s start count out₀ o at₀ left₀ next₀ out at left next = left
 
-add-out-2 : tie.Need-add-out-2 Inv-loop μ-loop
-add-out-2 c =
-    let l = c .before .before .before in
-    omega (arith, ascii-byte (l .before .args .s .now) (l .loop .at) (l .loop .left) (c .before .before .loop-test .taken) (omega arith) (l .loop .inv .1))
-
 loop-again : tie.Need-loop-again Inv-loop μ-loop
 loop-again c =
-    let l = c .before .before .before in
-    let s = l .before .args .s .now in
+    let l = c .before .before .before .before .before in
+    let s = l .before .before .before .args .s .now in
     let there : l .loop .at + 1 < length s = omega arith in
-    let some = c .before .before .loop-test .taken in
-    (byte (ascii-cons s (l .loop .at) (l .loop .left) some there (l .loop .inv .1)) (l .loop .inv .0), ascii-rest s (l .loop .at) (l .loop .left) some there (l .loop .inv .1), omega arith, omega arith, omega arith)
+    let some = c .before .before .before .before .loop-test .taken in
+    let unit = c .before .unit-of .ensures in
+    let is = c .ascii-of .ensures (omega (arith, ascii-byte s (l .loop .at) (l .loop .left) some there (l .loop .inv .1))) ∙ unit in
+    (byte (unit-cons s (l .loop .at) (l .loop .left) some there (c .ascii-of .result) is) (l .loop .inv .0), ascii-rest s (l .loop .at) (l .loop .left) some there (l .loop .inv .1), omega arith, omega arith, omega arith)
 
 returns : tie.Need-returns Inv-loop μ-loop
 returns c =
-    let k = c .before .before in
+    let k = c .before .before .before .before in
     rw (ascii-utf8 (cells 2 (k .args .count) (drop (k .args .start) (k .args .s .now))) (k .pre .1 .0))
     (end (cells-none _ (drop (c .before .loop .at) (k .args .s .now)) (c .loop-test .left)) (c .before .loop .inv .0))
 
@@ -43,11 +41,12 @@ put-ascii-spec =
     (tie.spec
     Inv-loop
     μ-loop
-    (λ c. (start, c .pre .1 .0, refl, omega arith, refl))
+    (λ c. (start, c .before .before .pre .1 .0, refl, omega arith, refl))
     (λ c. omega arith)
     (λ c. omega arith)
     (λ c. omega arith)
-    add-out-2
+    (λ c κs. search needs)
+    (λ c κs. search needs)
     (λ c. omega arith)
     (λ c. omega arith)
     (λ c. omega arith)
