@@ -52,9 +52,15 @@ mod values {
         let payload = u32s(&[0x10001]);
         let mut out = [0u8; 64];
         let count = accepted(write_container(1, 0x1005, NUMBER, &payload, &mut out));
-        assert_eq!(&out[..count], &container(1, 0x1005, &payload)[..]);
+        let theirs: fn(u16, &[u8]) -> Vec<u8> = black_box(|code, payload| {
+            let mut made = vec![];
+            ptp_gen_message(&mut made, PtpContainerType::Command, code, NUMBER, payload);
+            made
+        });
+        assert_eq!(theirs(0x1005, &payload), &out[..count]);
         line("a container of 16 bytes written", 1,
-             side(|| { black_box(write_container(1, 0x1005, NUMBER, black_box(&payload), &mut out)); }), None);
+             side(|| { black_box(write_container(1, black_box(0x1005), NUMBER, black_box(&payload), &mut out)); }),
+             Some(side(|| { black_box(theirs(black_box(0x1005), black_box(&payload)).len()); })));
     }
 
     /// Ours goes from value to value; theirs has them all once the description is read.
