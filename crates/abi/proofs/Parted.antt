@@ -1,6 +1,6 @@
 -- What is sent with data is the Command and, behind it, the Data container; and the Command has as many bytes as is told.
 -- Assumes nothing.
-use mathlib.Core.Path.{_≡_, refl, sym, ap, _∙_}
+use mathlib.Core.Path.{_≡_, refl, sym}
 use mathlib.Core.Bool.{Bool, true, false}
 use mathlib.Core.List.{List, _++_}
 use Prim.Native.Nat.{ℕ, _+_, _*_}
@@ -8,31 +8,22 @@ use native.Mathlib.Omega.{arith}
 use lib.Dec.{leb}
 use lib.ListN.{length}
 use Rattle.layout.specs.Answer.{bare, pick}
-use Rattle.layout.specs.Refusals.{COUNT, KIND}
+use Rattle.layout.specs.Refusals.{COUNT}
 use Rattle.layout.specs.Written.{Said, says, no}
 use Rattle.layout.proofs.laws.Tidied.{zero-one}
 use Rattle.session.specs.Transaction.{together, withData}
-use Rattle.wire.specs.Container.{isKind, paramBytes, containerWord, containerSaid, commandSaid}
+use Rattle.wire.specs.Container.{paramBytes, containerSaid, commandSaid}
 use Rattle.wire.specs.declared.container.Command.{Command}
-use Rattle.wire.proofs.laws.Contained.{container-length, params-long}
+use Rattle.wire.proofs.laws.Contained.{params-long}
+use Rattle.wire.proofs.laws.Sent.{container-size}
 use Rattle.abi.specs.Sent.{commandEnd}
-
--- a container that is written has its twelve bytes and its payload
-said-long : (kind code number : ℕ) (payload w : List ℕ) → containerSaid kind code number payload ≡ says w → length w ≡ 12 + length payload
-unfolding containerSaid
-said-long kind code number payload w e = go (isKind kind) (leb (length payload) 4294967283) e
-  where
-    go : (a b : Bool) → pick a (pick b (says (containerWord kind code number payload)) (no (bare COUNT))) (no (bare KIND)) ≡ says w → length w ≡ 12 + length payload
-    go true true f = let same : containerWord kind code number payload ≡ w = cc in ap length (sym same) ∙ container-length kind code number payload
-    go true false f = zero-one (cc)
-    go false b f = zero-one (cc)
 
 pub command-long : (c : Command) (number : ℕ) (w : List ℕ) → commandSaid c number ≡ says w → length w ≡ commandEnd (c .count)
 unfolding commandSaid
 command-long c number w e = go (leb (c .count) 5) e
   where
     go : (b : Bool) → pick b (containerSaid 1 (c .code) number (paramBytes (c .count) (c .params))) (no (bare COUNT)) ≡ says w → length w ≡ 12 + 4 * pick b (c .count) 5
-    go true f = omega (arith, said-long 1 (c .code) number (paramBytes (c .count) (c .params)) w f, params-long (c .count) (c .params))
+    go true f = omega (arith, container-size 1 (c .code) number (paramBytes (c .count) (c .params)) w f, params-long (c .count) (c .params))
     go false f = zero-one (cc)
 
 pub record TwoParts (c : Command) (payload : List ℕ) (number : ℕ) (w : List ℕ) : Type 0 where
