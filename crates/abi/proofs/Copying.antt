@@ -10,7 +10,7 @@ use lib.ListN.{length, drop}
 use Rattle.layout.specs.Answer.{Told, Answer, got, refused, bare, pick, after, means}
 use Rattle.layout.specs.Refusals.{ROOM}
 use Rattle.layout.specs.Written.{saidOf, answerOf, leftOf}
-use Rattle.layout.proofs.laws.Tidied.{zero-one}
+use Rattle.layout.proofs.laws.Numbers.{zero-one}
 use Rattle.recording.specs.Content.{Record}
 use Rattle.recording.specs.Row.{rowOf}
 use Rattle.recording.specs.Copied.{keptOf, kept, copySaid, none, leftBy, leftOut, copyOf, Copies}

@@ -6,7 +6,7 @@ use Prim.Native.Nat.{ℕ}
 use native.Mathlib.Omega.{arith}
 use Rattle.layout.specs.Answer.{Told, Answer, got, refused}
 use Rattle.layout.specs.Written.{says, Wrote}
-use Rattle.layout.proofs.laws.Tidied.{zero-one}
+use Rattle.layout.proofs.laws.Numbers.{zero-one}
 use Rattle.layout.proofs.laws.Writing.{refusal, done, nothing}
 use Rattle.settings.specs.Row.{saysChecked}
 use Rattle.settings.specs.declared.entry.Entry.{Entry}

@@ -10,7 +10,7 @@ use lib.ListN.{length}
 use Rattle.layout.specs.Answer.{bare, pick}
 use Rattle.layout.specs.Refusals.{COUNT}
 use Rattle.layout.specs.Written.{Said, says, no}
-use Rattle.layout.proofs.laws.Tidied.{zero-one}
+use Rattle.layout.proofs.laws.Numbers.{zero-one}
 use Rattle.session.specs.Transaction.{together, withData}
 use Rattle.wire.specs.Container.{paramBytes, containerSaid, commandSaid}
 use Rattle.wire.specs.declared.container.Command.{Command}

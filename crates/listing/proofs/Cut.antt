@@ -11,7 +11,7 @@ use lib.ListN.{length}
 use Rattle.layout.specs.Answer.{got, pick}
 use Rattle.layout.proofs.laws.Accepted.{accepted}
 use Rattle.layout.proofs.laws.Reading.{pick-alike}
-use Rattle.layout.proofs.laws.Tidied.{zero-one}
+use Rattle.layout.proofs.laws.Numbers.{zero-one}
 use Rattle.recording.specs.Content.{Record}
 use Rattle.recording.specs.Record.{limit, recordOf}
 use Rattle.recording.specs.Row.{isCut}

@@ -14,7 +14,7 @@ use lib.ListN.{length, drop, length-append, length-drop}
 use lib.Seq.{drop-drop, drop-append-le}
 use Rattle.layout.specs.Answer.{Answer, got, refused, pick}
 use Rattle.layout.proofs.laws.Accepted.{Accepts}
-use Rattle.layout.proofs.laws.Tidied.{zero-one}
+use Rattle.layout.proofs.laws.Numbers.{zero-one}
 use Rattle.recording.specs.Content.{Record}
 use Rattle.recording.specs.Record.{recordOf}
 use Rattle.recording.specs.Row.{isCut}

@@ -14,7 +14,7 @@ use Rattle.layout.specs.Answer.{Answer, Told, got, refused, pick}
 use Rattle.layout.specs.Written.{Put}
 use Rattle.layout.proofs.laws.Accepted.{Accepts, accepts-all}
 use Rattle.layout.proofs.laws.Reading.{pick-alike}
-use Rattle.layout.proofs.laws.Tidied.{zero-one}
+use Rattle.layout.proofs.laws.Numbers.{zero-one}
 use Rattle.layout.proofs.laws.Writing.{Owes, start, part, end, long, put-front}
 use Rattle.recording.specs.Content.{Record}
 use Rattle.recording.specs.Record.{recordOf}

@@ -13,7 +13,7 @@ use lib.ListN.{length, take, drop, length-append, length-drop, length-map, take-
 use lib.Seq.{drop-drop, length-take-le, drop-append-add, drop-at}
 use Rattle.layout.specs.Answer.{Told, Answer, got, refused, pick}
 use Rattle.layout.proofs.laws.Determined.{Tells, retracts}
-use Rattle.layout.proofs.laws.Tidied.{zero-one}
+use Rattle.layout.proofs.laws.Numbers.{zero-one}
 use Rattle.layout.proofs.laws.Words.{no-bytes}
 use Rattle.wire.specs.Returned.{partOf}
 use Rattle.wire.specs.declared.Part.{Part}

@@ -12,7 +12,7 @@ use lib.ListN.{length, take, drop, length-append, length-drop}
 use lib.Seq.{drop-drop, drop-append-le, take-at, take-append-seam}
 use Rattle.layout.specs.Answer.{pick}
 use Rattle.layout.proofs.laws.Reading.{drop-take}
-use Rattle.layout.proofs.laws.Tidied.{zero-one}
+use Rattle.layout.proofs.laws.Numbers.{zero-one}
 use Rattle.layout.proofs.laws.Words.{no-bytes}
 use Rattle.wire.specs.declared.Part.{Part}
 use Rattle.mending.specs.declared.window.Tally.{Tally}

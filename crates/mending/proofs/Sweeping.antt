@@ -13,7 +13,7 @@ use lib.Seq.{drop-drop, take-add}
 use Rattle.layout.specs.Answer.{Answer, Told, got, refused, pick}
 use Rattle.layout.proofs.laws.Accepted.{Accepts, accepts-all}
 use Rattle.layout.proofs.laws.Reading.{pick-alike}
-use Rattle.layout.proofs.laws.Tidied.{zero-one}
+use Rattle.layout.proofs.laws.Numbers.{zero-one}
 use Rattle.wire.specs.declared.Part.{Part}
 use Rattle.recording.specs.Content.{Record}
 use Rattle.recording.specs.Record.{recordOf}

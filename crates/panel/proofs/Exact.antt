@@ -15,9 +15,8 @@ use Rattle.layout.specs.Bytes.{Bytes, bytes}
 use Rattle.layout.specs.Grammar.{loose, tidy}
 use Rattle.layout.specs.Refusals.{END, TEXT, ROOM, COUNT, TRAIL}
 use Rattle.layout.specs.Written.{says, no, answerOf, leftOf}
-use Rattle.layout.proofs.laws.Numbers.{length-bytes}
+use Rattle.layout.proofs.laws.Numbers.{length-bytes, zero-one}
 use Rattle.layout.proofs.laws.Reading.{parted, picked, refused-meant, one-got}
-use Rattle.layout.proofs.laws.Tidied.{zero-one}
 use Rattle.session.specs.Payloads.{filling}
 use Rattle.session.specs.Transaction.{Turn, turn, together, withData, Makes}
 use Rattle.session.specs.declared.transaction.Session.{Session}

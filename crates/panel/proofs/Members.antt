@@ -17,7 +17,7 @@ use Rattle.layout.specs.Codec.{celled}
 use Rattle.layout.specs.Grammar.{loose, Number, empty, lead, such, as′, both, Repeat, Spare}
 use Rattle.layout.proofs.laws.Make.{num-size, cells-size, cells-format, repeat-length}
 use Rattle.layout.proofs.laws.Single.{single-number, single-repeat}
-use Rattle.layout.proofs.laws.Tidied.{zero-one}
+use Rattle.layout.proofs.laws.Numbers.{zero-one}
 use Rattle.layout.proofs.laws.Words.{self}
 use Rattle.wire.specs.Codecs.{value}
 use Rattle.wire.specs.Layout.{Text, string, Shaped, Val, str, Value}

@@ -14,8 +14,7 @@ use Rattle.layout.specs.Answer.{got, pick, after, means, fieldAt}
 use Rattle.layout.specs.Bytes.{bytes, number, cells}
 use Rattle.layout.specs.Grammar.{loose, num, as′}
 use Rattle.layout.proofs.laws.Make.{span-there}
-use Rattle.layout.proofs.laws.Numbers.{number-bytes}
-use Rattle.layout.proofs.laws.Tidied.{zero-one}
+use Rattle.layout.proofs.laws.Numbers.{number-bytes, zero-one}
 use Rattle.wire.specs.Codecs.{value}
 use Rattle.wire.specs.Layout.{signed, Kind, sint, uint, wide, width, meaning, one, shape, Shaped, Val, Value}
 use Rattle.wire.specs.List.{stepAt, saysStep}

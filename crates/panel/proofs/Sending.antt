@@ -13,9 +13,8 @@ use Rattle.layout.specs.Grammar.{loose, Number, num, empty, lead, such, as′, 
 use Rattle.layout.specs.Written.{says, no, Wrote, saidOf, tidied}
 use Rattle.layout.proofs.laws.Did.{whole, Kept, not-due, too-short, kept}
 use Rattle.layout.proofs.laws.Make.{repeat-length}
-use Rattle.layout.proofs.laws.Numbers.{length-bytes}
+use Rattle.layout.proofs.laws.Numbers.{length-bytes, zero-one}
 use Rattle.layout.proofs.laws.Reading.{unmeant, refused-meant}
-use Rattle.layout.proofs.laws.Tidied.{zero-one}
 use Rattle.layout.proofs.laws.Words.{self}
 use Rattle.layout.proofs.laws.Writing.{refusal}
 use Rattle.session.specs.Transaction.{withData, Makes, saysMade}

@@ -14,7 +14,7 @@ use Rattle.layout.specs.Bytes.{Bytes, number}
 use Rattle.layout.specs.Codec.{repeated}
 use Rattle.layout.proofs.laws.Accepted.{accepted, accepts-field}
 use Rattle.layout.proofs.laws.Reading.{parted, unmeant, field-there}
-use Rattle.layout.proofs.laws.Tidied.{zero-one}
+use Rattle.layout.proofs.laws.Numbers.{zero-one}
 use Rattle.wire.specs.Codecs.{shaped, value}
 use Rattle.wire.specs.Description as placed
 use Rattle.wire.specs.Description.{PropInfo}

@@ -10,7 +10,7 @@ use lib.Dec.{leb, ltb, eqb}
 use lib.IntN.{ℤ, pos, negsuc, natAbs, _-ℤ_}
 use lib.Signed.{mag, ltZ, leZ, nonNeg}
 use Rattle.layout.specs.Answer.{pick}
-use Rattle.layout.proofs.laws.Tidied.{zero-one}
+use Rattle.layout.proofs.laws.Numbers.{zero-one}
 use Rattle.wire.specs.Codecs.{unsigned}
 use Rattle.panel.specs.Test.{sameZ, onStep, inRange}
 use Rattle.panel.specs.Words.{atMost, span, atEnd, atStep, wholeRange}

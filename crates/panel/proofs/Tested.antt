@@ -14,7 +14,7 @@ use lib.IntN.{ℤ, pos, negsuc, natAbs, _+ℤ_, _-ℤ_, +ℤ-comm, -ℤ-+ℤ-can
 use lib.Signed.{leZ, _≤ℤ_}
 use Rattle.layout.specs.Answer.{pick}
 use Rattle.layout.proofs.laws.Make.{tested}
-use Rattle.layout.proofs.laws.Tidied.{zero-one}
+use Rattle.layout.proofs.laws.Numbers.{zero-one}
 use Rattle.wire.specs.Layout.{int, nat, pair, Val, num, nums, str, nil, Form, range, list, no-form}
 use Rattle.panel.specs.Allowed.{Integer, signed, unsigned, Stepped, steps, lowest, highest, Ranged, Allowed, every, member, between}
 use Rattle.panel.specs.Test.{val-discrete, decided, isMember, sameZ, onStep, inRange, integer, given, allows}

@@ -8,7 +8,7 @@ use native.Mathlib.Omega.{arith}
 use borrow.Author.Tests.{le-leb, lt-leb}
 use lib.Dec.{leb, lit≤}
 use Rattle.layout.specs.Answer.{Answer, got, refused, means}
-use Rattle.layout.proofs.laws.Tidied.{zero-one}
+use Rattle.layout.proofs.laws.Numbers.{zero-one}
 use Rattle.wire.specs.Layout.{sint, uint, width, Shape, one, many, string, undef, shape}
 use Rattle.wire.specs.Places.{numAt, arrayAt, textAt, Located, shapeAt}
 use Rattle.panel.specs.Panel.{isUndef, integral}

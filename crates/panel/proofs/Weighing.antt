@@ -17,7 +17,7 @@ use Rattle.layout.specs.Grammar.{loose}
 use Rattle.layout.proofs.laws.Accepted.{accepted}
 use Rattle.layout.proofs.laws.Meets.{filled, reads-exactly}
 use Rattle.layout.proofs.laws.Reading.{at-most, parted, picked, unmeant, one-got}
-use Rattle.layout.proofs.laws.Tidied.{zero-one}
+use Rattle.layout.proofs.laws.Numbers.{zero-one}
 use Rattle.session.specs.Payloads.{filling}
 use Rattle.wire.specs.Description as placed
 use Rattle.wire.specs.Description.{PropInfo}

@@ -15,7 +15,7 @@ use Rattle.layout.specs.Refusals.{ROOM}
 use Rattle.layout.specs.Written.{says, no, saidOf, answerOf, leftOf, spelling, Wrote}
 use Rattle.layout.proofs.laws.Accepted.{Accepts, accepted, accepts-after, accepts-means, accepts-pick}
 use Rattle.layout.proofs.laws.Determined.{Tells, retracts}
-use Rattle.layout.proofs.laws.Tidied.{zero-one}
+use Rattle.layout.proofs.laws.Numbers.{zero-one}
 use Rattle.wire.specs.Returned.{partOf}
 use Rattle.recording.specs.Content.{Content, Record}
 use Rattle.recording.specs.Content as content

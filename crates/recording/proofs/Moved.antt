@@ -15,7 +15,7 @@ use Rattle.layout.specs.Bytes.{number}
 use Rattle.layout.specs.Refusals.{TRAIL, KIND, LENGTH, SIZE, RECORD, LONG}
 use Rattle.layout.proofs.laws.Accepted.{Accepts, accepted, accepts-means, accepts-pick}
 use Rattle.layout.proofs.laws.Reading.{means-means, means-same}
-use Rattle.layout.proofs.laws.Tidied.{zero-one}
+use Rattle.layout.proofs.laws.Numbers.{zero-one}
 use Rattle.wire.specs.Places.{numAt}
 use Rattle.wire.specs.Container.{headerRest, headerAt, containerAt}
 use Rattle.wire.specs.Container as C

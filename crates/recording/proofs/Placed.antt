@@ -14,7 +14,8 @@ use Rattle.layout.specs.Refusals.{ROOM}
 use Rattle.layout.specs.Written.{says, no, saidOf, answerOf, Wrote, took, spelling, Put, roomed}
 use Rattle.layout.proofs.laws.Accepted.{Accepts, accepted, accepts-all, accepts-means, accepts-after, accepts-pick}
 use Rattle.layout.proofs.laws.Reading.{stop, means-means}
-use Rattle.layout.proofs.laws.Tidied.{zero-one, took-more}
+use Rattle.layout.proofs.laws.Numbers.{zero-one}
+use Rattle.layout.proofs.laws.Tidied.{took-more}
 use Rattle.layout.proofs.laws.Writing.{Owes, start, end, roomy, long, in-room, nothing, refusal, no-room, done}
 use Rattle.layout.proofs.laws.Writing.{part as parted}
 use Rattle.recording.specs.Content.{Record}

@@ -17,8 +17,7 @@ use Rattle.layout.specs.Refusals.{TRAIL, RECORD, LONG}
 use Rattle.layout.specs.Written.{says, no, saidOf, Wrote}
 use Rattle.layout.proofs.laws.Accepted.{accepted}
 use Rattle.layout.proofs.laws.Did.{Whole, whole}
-use Rattle.layout.proofs.laws.Numbers.{number-bytes}
-use Rattle.layout.proofs.laws.Tidied.{zero-one}
+use Rattle.layout.proofs.laws.Numbers.{number-bytes, zero-one}
 use Rattle.wire.specs.Container.{containerAt, containerWord, containerSaid}
 use Rattle.wire.specs.Tests.{_gives_else_, holds, fails, Otherwise, otherwise}
 use Rattle.wire.specs.Refused.{announced, kindIn, codeIn, numberIn, ContainerTests, containerIn, ContainerSays}

@@ -14,8 +14,7 @@ use Rattle.layout.specs.Bytes.{bytes, number}
 use Rattle.layout.specs.Written.{says, no, saidOf, Put, roomed}
 use Rattle.layout.proofs.laws.Accepted.{accepted, accepts-field}
 use Rattle.layout.proofs.laws.Make.{span-there, span-short}
-use Rattle.layout.proofs.laws.Numbers.{length-bytes}
-use Rattle.layout.proofs.laws.Tidied.{zero-one}
+use Rattle.layout.proofs.laws.Numbers.{length-bytes, zero-one}
 use Rattle.layout.proofs.laws.Stored.{first, more}
 use Rattle.layout.specs.Refusals.{RECORD, LONG}
 use Rattle.wire.specs.Places.{numAt}

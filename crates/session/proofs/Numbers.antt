@@ -11,7 +11,7 @@ use native.Mathlib.Decide.{decLt, ℕ-discrete}
 use borrow.Author.Tests.{eq-eqb, ne-eqb, lt-ltb, le-ltb, eqb-false}
 use Rattle.layout.specs.Answer.{Answer, got, refused, means}
 use Rattle.layout.specs.Written.{Said}
-use Rattle.layout.proofs.laws.Tidied.{zero-one}
+use Rattle.layout.proofs.laws.Numbers.{zero-one}
 use Rattle.session.specs.Calls.{openSession, closeSession}
 use Rattle.session.specs.Transaction.{freshSession, lastNumber, numberSent, nextNumber, Turn, turn, Makes}
 use Rattle.session.specs.declared.transaction.Session.{Session}

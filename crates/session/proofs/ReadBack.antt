@@ -11,7 +11,7 @@ use lib.ListN.{length, take, drop, length-append, length-drop}
 use lib.Seq.{take-at, drop-at, drop-drop}
 use Rattle.layout.specs.Answer.{Answer, got, refused, means}
 use Rattle.layout.specs.Written.{Said, says, no, Wrote}
-use Rattle.layout.proofs.laws.Tidied.{zero-one}
+use Rattle.layout.proofs.laws.Numbers.{zero-one}
 use Rattle.wire.specs.Container.{isKind, containerAt, containerWord, containerSaid, paramBytes, commandSaid, saysContainer}
 use Rattle.wire.specs.Returned.{Returns, partOf}
 use Rattle.wire.specs.declared.container.Command.{Command}

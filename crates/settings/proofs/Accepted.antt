@@ -13,7 +13,7 @@ use Rattle.layout.specs.Answer.{Told, Answer, got, refused, pick, after, bare}
 use Rattle.layout.specs.Bytes.{Bytes}
 use Rattle.layout.specs.Refusals.{RECORD}
 use Rattle.layout.proofs.laws.Reading.{one-got}
-use Rattle.layout.proofs.laws.Tidied.{zero-one}
+use Rattle.layout.proofs.laws.Numbers.{zero-one}
 use Rattle.settings.specs.Refusals.{FULL}
 use Rattle.settings.specs.Layout.{Key, Setting, sameKey, holds, Distinct, limit}
 use Rattle.settings.specs.Entry.{entryAt, keyIn, settingIn}

@@ -6,7 +6,7 @@ use Prim.Native.Nat.{ℕ, _≤_}
 use native.Mathlib.Omega.{arith}
 use Rattle.layout.specs.Answer.{Answer, got}
 use Rattle.layout.proofs.laws.Told.{Telling, read, ended, spoilt, other}
-use Rattle.layout.proofs.laws.Tidied.{zero-one}
+use Rattle.layout.proofs.laws.Numbers.{zero-one}
 use Rattle.wire.specs.Layout.{shape}
 use Rattle.wire.specs.Places.{Located, valueAt}
 use Rattle.wire.proofs.laws.Told.{shape-telling}

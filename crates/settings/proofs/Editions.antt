@@ -14,7 +14,7 @@ use Rattle.layout.specs.Refusals.{RECORD}
 use Rattle.settings.specs.Refusals.{FULL}
 use Rattle.layout.specs.Bytes.{Bytes}
 use Rattle.layout.proofs.laws.Reading.{parted, picked}
-use Rattle.layout.proofs.laws.Tidied.{zero-one}
+use Rattle.layout.proofs.laws.Numbers.{zero-one}
 use Rattle.wire.specs.Places.{numAt}
 use Rattle.settings.specs.Layout.{ANY, OWN, knows, Key, Setting, sameKey, holds, limit, IsRow}
 use Rattle.settings.specs.Entry.{restAt, wholeAt, entryAt, keyIn, settingIn}

@@ -14,10 +14,9 @@ use lib.Seq.{take-at, drop-at}
 use Rattle.layout.specs.Answer.{Answer, got, refused, pick, after, means}
 use Rattle.layout.specs.Bytes.{Bytes, bytes}
 use Rattle.layout.specs.Format.{Stands}
-use Rattle.layout.proofs.laws.Numbers.{length-bytes}
+use Rattle.layout.proofs.laws.Numbers.{length-bytes, zero-one}
 use Rattle.layout.proofs.laws.Reading.{parted, picked, one-got}
 use Rattle.layout.proofs.laws.Words.{split, self}
-use Rattle.layout.proofs.laws.Tidied.{zero-one}
 use Rattle.settings.specs.Layout.{Key, Setting, sameKey, holds, Distinct, limit, IsEntry, is-entry, Entries, none, one-more, IsRow}
 use Rattle.settings.specs.Entry.{wholeAt, isTidy, tidyAt, entryAt, aloneIn, keyIn, settingIn}
 use Rattle.settings.specs.Row.{settingsIn, rowFrom, rowOf}

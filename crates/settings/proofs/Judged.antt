@@ -19,10 +19,9 @@ use Rattle.layout.specs.Grammar as grammar
 use Rattle.layout.specs.Grammar.{loose, tidy, both, as′}
 use Rattle.layout.specs.Refusals.{TRAIL, RECORD}
 use Rattle.layout.proofs.laws.Make.{Spanned, there, short, spanned}
-use Rattle.layout.proofs.laws.Numbers.{Bytes-take}
+use Rattle.layout.proofs.laws.Numbers.{Bytes-take, zero-one}
 use Rattle.layout.proofs.laws.Reading.{one-got, field-there}
 use Rattle.layout.proofs.laws.Words.{join, split, fits}
-use Rattle.layout.proofs.laws.Tidied.{zero-one}
 use Rattle.wire.specs.Places.{numAt, itemsIn}
 use Rattle.wire.specs.Tests.{_gives_else_, holds, fails}
 use Rattle.wire.specs.Refused.{announced, kindIn}

@@ -19,8 +19,7 @@ use Rattle.layout.specs.declared.Written.{Written}
 use Rattle.layout.specs.declared.Written.the-variants as written
 use Rattle.layout.proofs.laws.Did.{whole, Kept, not-due, too-short, kept}
 use Rattle.layout.proofs.laws.Make.{repeat-length, tested}
-use Rattle.layout.proofs.laws.Numbers.{length-bytes}
-use Rattle.layout.proofs.laws.Tidied.{zero-one}
+use Rattle.layout.proofs.laws.Numbers.{length-bytes, zero-one}
 use Rattle.layout.proofs.laws.Writing.{put-front}
 use Rattle.wire.specs.Codecs.{text}
 use Rattle.wire.specs.Given.{textSaid}

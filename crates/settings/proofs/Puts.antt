@@ -10,7 +10,7 @@ use borrow.Author.Tests.{leb-false}
 use lib.Dec.{leb}
 use lib.ListN.{length}
 use Rattle.layout.specs.Answer.{pick}
-use Rattle.layout.proofs.laws.Tidied.{zero-one}
+use Rattle.layout.proofs.laws.Numbers.{zero-one}
 use Rattle.settings.specs.Layout.{Key, Setting, sameKey, holds, Distinct, limit}
 use Rattle.settings.specs.Row.{firstBy}
 use Rattle.settings.specs.Store.{put, isFull}

@@ -15,7 +15,7 @@ use Rattle.layout.specs.Bytes.{Bytes}
 use Rattle.layout.specs.Grammar.{tidy}
 use Rattle.layout.specs.Refusals.{RECORD}
 use Rattle.layout.proofs.laws.Reading.{one-got}
-use Rattle.layout.proofs.laws.Tidied.{zero-one}
+use Rattle.layout.proofs.laws.Numbers.{zero-one}
 use Rattle.layout.proofs.laws.Words.{no-bytes}
 use Rattle.wire.specs.Places.{numAt}
 use Rattle.settings.specs.Refusals.{FULL}

@@ -17,10 +17,9 @@ use Rattle.layout.specs.Format.{Format, Stands}
 use Rattle.layout.specs.Grammar as grammar
 use Rattle.layout.specs.Grammar.{loose, tidy, empty, both, as′}
 use Rattle.layout.proofs.laws.Make.{nothing-format, number-format, then-format, as-format}
-use Rattle.layout.proofs.laws.Numbers.{length-bytes}
+use Rattle.layout.proofs.laws.Numbers.{length-bytes, zero-one}
 use Rattle.layout.proofs.laws.Reading.{parted, picked, one-got}
 use Rattle.layout.proofs.laws.Words.{join, split, fits, self}
-use Rattle.layout.proofs.laws.Tidied.{zero-one}
 use Rattle.wire.specs.Codecs.{text, value}
 use Rattle.wire.specs.Layout.{STR, Val, Value}
 use Rattle.wire.specs.Places.{itemsIn}

@@ -12,7 +12,7 @@ use Rattle.layout.specs.Answer.{Answer, got, refused, pick, means, bare}
 use Rattle.layout.specs.Bytes.{Bytes}
 use Rattle.layout.specs.Written.{says, no}
 use Rattle.layout.proofs.laws.Reading.{one-got}
-use Rattle.layout.proofs.laws.Tidied.{zero-one}
+use Rattle.layout.proofs.laws.Numbers.{zero-one}
 use Rattle.settings.specs.Refusals.{FULL}
 use Rattle.settings.specs.Layout.{ANY, OWN, Key, Setting, sameKey, holds, IsEntry, Entries, one-more, IsRow}
 use Rattle.settings.specs.Layout as layout

@@ -18,7 +18,7 @@ use Rattle.layout.specs.Written.{says, no, Wrote, Put, roomed}
 use Rattle.layout.proofs.laws.Make.{span-short}
 use Rattle.layout.proofs.laws.Reading.{parted, picked, one-got}
 use Rattle.layout.proofs.laws.Stored.{first, more}
-use Rattle.layout.proofs.laws.Tidied.{zero-one}
+use Rattle.layout.proofs.laws.Numbers.{zero-one}
 use Rattle.layout.proofs.laws.Writing.{no-room, done, refusal}
 use Rattle.wire.specs.Places.{filledAt}
 use Rattle.wire.proofs.laws.Located.{filled-end}

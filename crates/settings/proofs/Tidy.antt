@@ -16,7 +16,7 @@ use Rattle.layout.specs.Grammar as grammar
 use Rattle.layout.specs.Grammar.{loose, tidy, empty, Number, lead, such, as′, both, Repeat}
 use Rattle.layout.proofs.laws.Make.{cells-size, repeat-length, repeat-format, number-format}
 use Rattle.layout.proofs.laws.Single.{single-number, single-repeat}
-use Rattle.layout.proofs.laws.Tidied.{zero-one}
+use Rattle.layout.proofs.laws.Numbers.{zero-one}
 use Rattle.wire.specs.Layout.{text-count, Text, STR, string, Val, Shaped, Value}
 use Rattle.wire.proofs.laws.Formats.{value-single}
 use Rattle.settings.specs.Entry.{tidyText}

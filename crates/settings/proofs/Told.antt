@@ -12,7 +12,7 @@ use Rattle.layout.specs.Answer.{Told, Answer, got, refused, pick, means, bare}
 use Rattle.layout.specs.Bytes.{number}
 use Rattle.layout.specs.Refusals.{TRAIL, RECORD}
 use Rattle.layout.specs.Written.{says, no}
-use Rattle.layout.proofs.laws.Tidied.{zero-one}
+use Rattle.layout.proofs.laws.Numbers.{zero-one}
 use Rattle.layout.specs.Told.{PlacedExactly, Inside}
 use Rattle.layout.proofs.laws.Told.{Telling, read, ended, spoilt, other, telling-same, plainly, Closed, Everywhere, everywhere, up-to, front-closed, telling-pick, telling-after, telling-span, telling-field, telling-exactly, telling-inside}
 use Rattle.wire.specs.Layout.{shape}

@@ -15,7 +15,7 @@ use lib.Seq.{drop-cons}
 use Rattle.layout.specs.Answer.{Told, got, refused, bare, pick}
 use Rattle.layout.proofs.laws.Reading.{follow, stop}
 use Rattle.layout.specs.Refusals.{TABLE}
-use Rattle.layout.proofs.laws.Tidied.{zero-one}
+use Rattle.layout.proofs.laws.Numbers.{zero-one}
 use Rattle.tree.specs.Facts.{Ruled, Rising, Kept}
 use Rattle.tree.specs.Table.{Table, parent, kept, keptFrom, parentsOk, risesFrom, startOf, endOf, tableOk, nameAt, namesFrom, tableAt}
 use Rattle.tree.specs.Way.{within}

@@ -13,7 +13,7 @@ use lib.Seq.{drop-cons, take-at}
 use Rattle.layout.specs.Answer.{Told, Answer, got, refused, bare, pick}
 use Rattle.layout.specs.Bytes.{Bytes}
 use Rattle.layout.specs.Written.{says, no, Wrote, Put, leftOf}
-use Rattle.layout.proofs.laws.Tidied.{zero-one}
+use Rattle.layout.proofs.laws.Numbers.{zero-one}
 use Rattle.layout.proofs.laws.Writing.{refusal, no-room, done}
 use Rattle.layout.specs.Refusals.{ROOM}
 use Rattle.tree.specs.Facts.{Ruled, Kept, Listing}

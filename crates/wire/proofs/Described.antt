@@ -15,7 +15,7 @@ use Rattle.layout.specs.Placed.{Inside, Placed, Lies, lies, nowhere}
 use Rattle.layout.proofs.laws.Local.{repeated-local, alone}
 use Rattle.layout.proofs.laws.Meets.{lies-got, lies-after}
 use Rattle.layout.proofs.laws.Reading.{unmeant, means-means, means-same}
-use Rattle.layout.proofs.laws.Tidied.{zero-one}
+use Rattle.layout.proofs.laws.Numbers.{zero-one}
 use Rattle.wire.specs.Description.{PropInfo}
 use Rattle.wire.specs.declared.property.Slot.{Slot}
 use Rattle.wire.specs.Description as placed

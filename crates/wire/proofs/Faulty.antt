@@ -17,7 +17,7 @@ use Rattle.layout.proofs.laws.Decided.{refuses-exactly}
 use Rattle.layout.proofs.laws.Final.{end-not-text, Bytes-append}
 use Rattle.layout.proofs.laws.Meets.{reads-exactly}
 use Rattle.layout.proofs.laws.Make.{Spanned, there, short, spanned, span-there}
-use Rattle.layout.proofs.laws.Tidied.{zero-one}
+use Rattle.layout.proofs.laws.Numbers.{zero-one}
 use Rattle.wire.specs.declared.Part.{Part}
 use Rattle.wire.specs.Layout.{pairs, paired, Text, Shape, one, many, string, undef, shape, Val, Row}
 use Rattle.wire.specs.Codecs.{text}

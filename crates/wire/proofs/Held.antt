@@ -18,8 +18,7 @@ use Rattle.layout.specs.Format.{Format}
 use Rattle.layout.specs.Grammar.{loose, Grammar, empty, both, lead, as′, Repeat}
 use Rattle.layout.specs.Placed.{Inside}
 use Rattle.layout.proofs.laws.Make.{repeat-format}
-use Rattle.layout.proofs.laws.Numbers.{Bytes-take, Bytes-drop}
-use Rattle.layout.proofs.laws.Tidied.{zero-one}
+use Rattle.layout.proofs.laws.Numbers.{Bytes-take, Bytes-drop, zero-one}
 use Rattle.layout.proofs.laws.Words.{fits, part-there}
 use Rattle.layout.proofs.laws.Meets.{read-word, lies-got, kept}
 use Rattle.wire.specs.Description.{PropInfo}

@@ -14,7 +14,7 @@ use Rattle.layout.specs.Bytes.{number, bytes}
 use Rattle.layout.specs.Codec.{repeated}
 use Rattle.layout.proofs.laws.Local.{repeated-local, alone}
 use Rattle.layout.proofs.laws.Make.{Spanned, short, spanned, there}
-use Rattle.layout.proofs.laws.Tidied.{zero-one}
+use Rattle.layout.proofs.laws.Numbers.{zero-one}
 use Rattle.wire.specs.Description.{PropInfo}
 use Rattle.wire.specs.Description as placed
 use Rattle.wire.specs.Layout.{Val}

@@ -11,7 +11,7 @@ use Rattle.layout.specs.Bytes.{number}
 use Rattle.layout.specs.Codec.{repeated}
 use Rattle.layout.proofs.laws.Make.{span-there}
 use Rattle.layout.proofs.laws.Reading.{cutAt, span-more}
-use Rattle.layout.proofs.laws.Tidied.{zero-one}
+use Rattle.layout.proofs.laws.Numbers.{zero-one}
 use Rattle.wire.specs.Layout.{Kind, width, meaning, one, undef, shape, Val}
 use Rattle.wire.specs.Codecs.{value}
 use Rattle.wire.specs.Places.{Located, number-is, empty, shapeAt, valueAt, shapeIn}

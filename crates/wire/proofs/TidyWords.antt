@@ -14,8 +14,8 @@ use Rattle.layout.specs.Grammar.{loose, empty, _then_, lead, as′, Counted}
 use Rattle.layout.specs.Written.{says, no, saidOf, tidied, took, spelling}
 use Rattle.layout.proofs.laws.Accepted.{Accepts, accepted, accepts-any, accepts-after}
 use Rattle.layout.proofs.laws.Make.{num-size}
-use Rattle.layout.proofs.laws.Numbers.{length-bytes}
-use Rattle.layout.proofs.laws.Tidied.{Shrinks, nothing-shrinks, number-shrinks, then-shrinks, as-shrinks, count-shrinks, shrunk, zero-one}
+use Rattle.layout.proofs.laws.Numbers.{length-bytes, zero-one}
+use Rattle.layout.proofs.laws.Tidied.{Shrinks, nothing-shrinks, number-shrinks, then-shrinks, as-shrinks, count-shrinks, shrunk}
 use borrow.Author.Tests.{ne-eqb}
 use lib.Dec.{eqb}
 use Rattle.wire.specs.Description.{PropInfo}

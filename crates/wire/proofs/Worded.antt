@@ -11,9 +11,8 @@ use Rattle.layout.specs.Bytes.{Bytes}
 use Rattle.layout.specs.Format.{word}
 use Rattle.layout.specs.Grammar.{Number, Repeat}
 use Rattle.layout.proofs.laws.Make.{cells-all}
-use Rattle.layout.proofs.laws.Numbers.{Bytes-take, Bytes-drop}
+use Rattle.layout.proofs.laws.Numbers.{Bytes-take, Bytes-drop, zero-one}
 use Rattle.layout.proofs.laws.Reading.{cells-take}
-use Rattle.layout.proofs.laws.Tidied.{zero-one}
 use Rattle.layout.proofs.laws.Words.{fits}
 use Rattle.wire.specs.declared.Part.{Part}
 use Rattle.wire.specs.Layout.{meaning, width, Shape, one, many, string, undef, shape}

@@ -8,7 +8,7 @@ use native.Mathlib.Nat.{suc-inj, suc-ne-zero}
 use lib.ListN.{length, getD}
 use Rattle.layout.specs.Answer.{Told, Answer, got, refused, after}
 use Rattle.layout.specs.Written.{says, Wrote}
-use Rattle.layout.proofs.laws.Tidied.{zero-one}
+use Rattle.layout.proofs.laws.Numbers.{zero-one}
 use Rattle.layout.proofs.laws.Writing.{refusal}
 use Rattle.session.specs.Payloads.{filling}
 use Rattle.recording.specs.Content.{Content}

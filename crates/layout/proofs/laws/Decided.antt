@@ -19,7 +19,7 @@ use Rattle.layout.specs.Refusals.{END, TEXT}
 use Rattle.layout.proofs.laws.Final.{end-not-text, stays-got, stays-text, Bytes-append}
 use Rattle.layout.proofs.laws.Meets.{accepted}
 use Rattle.layout.proofs.laws.Reading.{refused-meant}
-use Rattle.layout.proofs.laws.Tidied.{zero-one}
+use Rattle.layout.proofs.laws.Numbers.{zero-one}
 use Rattle.layout.proofs.laws.Words.{fits, part-there}
 
 -- a prefix of s is one of s with more after it

@@ -7,7 +7,7 @@ use Rattle.layout.specs.Answer.{Answer}
 use Rattle.layout.specs.Written.{Said, Wrote, Put, saysWritten}
 use Rattle.layout.specs.declared.Written.{Written}
 use Rattle.layout.specs.declared.Written.the-variants as written
-use Rattle.layout.proofs.laws.Tidied.{zero-one}
+use Rattle.layout.proofs.laws.Numbers.{zero-one}
 
 -- what an answer says determines it
 abbrev pub Tells : {R A : Type 0} → (R → A) → Type 0

@@ -10,7 +10,7 @@ use lib.ListN.{length, drop}
 use Rattle.layout.specs.Answer.{Told, Answer, got, refused, bare, pick}
 use Rattle.layout.specs.Refusals.{ROOM}
 use Rattle.layout.specs.Written.{Said, says, no, Wrote, answerOf, leftOf}
-use Rattle.layout.proofs.laws.Tidied.{zero-one}
+use Rattle.layout.proofs.laws.Numbers.{zero-one}
 
 -- it wrote all that was due
 pub record Whole (s : Said) (old : List ℕ) (n : ℕ) (new : List ℕ) : Type 0 where

@@ -15,7 +15,7 @@ use Rattle.layout.specs.Fault.{Fault, Clean, Fails, inner, fails, Along,
 use Rattle.layout.specs.Format.{Stands, Sound, word, none, Format}
 use Rattle.layout.specs.Grammar.{loose, Grammar, Number}
 use Rattle.layout.proofs.laws.Make.{Spanned, there, short, spanned, span-there, number-format}
-use Rattle.layout.proofs.laws.Tidied.{zero-one}
+use Rattle.layout.proofs.laws.Numbers.{zero-one}
 use Rattle.layout.proofs.laws.Words.{fits, join, split}
 
 pub end-not-text : (p q : ℕ) → endAt p ≡ badText q → ⊥

@@ -13,7 +13,7 @@ use lib.Seq.{drop-cons, take-take}
 use Rattle.layout.specs.Answer.{Answer, Told, got, refused, pick, after, means, spanAt, fieldAt}
 use Rattle.layout.specs.Bytes.{number, cells}
 use Rattle.layout.proofs.laws.Make.{Spanned, short, spanned, there, span-short, span-there}
-use Rattle.layout.proofs.laws.Tidied.{zero-one}
+use Rattle.layout.proofs.laws.Numbers.{zero-one}
 
 -- what an answer says, of the case that it is
 pub heard : {R A : Type 0} (says : R → A) {r k : R} {a : A} → r ≡ k → says r ≡ a → says k ≡ a

@@ -19,7 +19,7 @@ use Rattle.layout.specs.Spot.{Spot, Nowhere, Here, here, Past, early, la
 use Rattle.layout.proofs.laws.Decided.{refuses}
 use Rattle.layout.proofs.laws.Final.{end-not-text}
 use Rattle.layout.proofs.laws.Make.{Spanned, there, short, spanned, number-format}
-use Rattle.layout.proofs.laws.Tidied.{zero-one}
+use Rattle.layout.proofs.laws.Numbers.{zero-one}
 use Rattle.layout.proofs.laws.Words.{fits, front, part-there, rest-of}
 
 -- ── fields: a refusal is told of their own place ──

@@ -13,11 +13,8 @@ use Rattle.layout.specs.Codec.{Codec, nothing, numbered, _and_, through,
 use Rattle.layout.specs.Format.{Format, Sound, word, none}
 use Rattle.layout.specs.Written.{says, no, saidOf, wordAt, took, spelling}
 use Rattle.layout.proofs.laws.Make.{num-size, repeat-length}
-use Rattle.layout.proofs.laws.Numbers.{length-bytes}
+use Rattle.layout.proofs.laws.Numbers.{length-bytes, zero-one}
 use Rattle.layout.proofs.laws.Words.{fits}
-
-pub zero-one : {X : Type 0} → _≡_ {A = ℕ} 0 1 → X
-zero-one e = let f : ⊥ = omega arith in absurd f
 
 module _ (x : Answer (List ℕ)) where
   -- measured, it is there

@@ -16,7 +16,7 @@ use Rattle.layout.specs.Answer.{Told, Answer, got, refused, pick, after,
 use Rattle.layout.specs.Codec.{Codec, repeated}
 use Rattle.layout.specs.Refusals.{END, TEXT}
 use Rattle.layout.specs.Told.{PlacedExactly, Inside}
-use Rattle.layout.proofs.laws.Tidied.{zero-one}
+use Rattle.layout.proofs.laws.Numbers.{zero-one}
 
 -- every place of an answer is in P
 pub data Telling {A : Type 0} (P : ℕ → Type 0) : Answer A → Type 0 where

@@ -11,7 +11,7 @@ use lib.Dec.{ltb}
 use lib.ListN.{length, take, drop, length-append, length-drop, length-take}
 use Rattle.layout.specs.Answer.{pick}
 use Rattle.layout.specs.Written.{Put}
-use Rattle.layout.proofs.laws.Tidied.{zero-one}
+use Rattle.layout.proofs.laws.Numbers.{zero-one}
 use Rattle.layout.proofs.laws.Writing.{put-front}
 use Rattle.listing.specs.declared.Listed.{Listed}
 use Rattle.listing.specs.declared.turn.Turn.{Turn}

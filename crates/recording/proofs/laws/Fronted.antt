@@ -11,7 +11,7 @@ use Rattle.layout.specs.Answer.{Told, Answer, got, refused, means}
 use Rattle.layout.specs.Bytes.{number}
 use Rattle.layout.proofs.laws.Accepted.{Accepts, accepted}
 use Rattle.layout.proofs.laws.Reading.{drop-take}
-use Rattle.layout.proofs.laws.Tidied.{zero-one}
+use Rattle.layout.proofs.laws.Numbers.{zero-one}
 use Rattle.wire.specs.Refused.{announced}
 use Rattle.wire.specs.Tests.{holds, fails, otherwise}
 use Rattle.recording.specs.Content.{Record}

@@ -16,7 +16,7 @@ use Rattle.layout.specs.Answer.{Told, Answer, got, refused, pick, after, means,
 use Rattle.layout.specs.Refusals.{END, TRAIL, KIND, LENGTH, SIZE, RECORD, LONG}
 use Rattle.layout.proofs.laws.Make.{Spanned, there, short, spanned, span-there}
 use Rattle.layout.proofs.laws.Reading.{drop-take}
-use Rattle.layout.proofs.laws.Tidied.{zero-one}
+use Rattle.layout.proofs.laws.Numbers.{zero-one}
 use Rattle.layout.proofs.laws.Told.{end-no, bare-no}
 use Rattle.wire.specs.Places.{numAt}
 use Rattle.wire.specs.Container.{headerRest, headerAt, containerAt}

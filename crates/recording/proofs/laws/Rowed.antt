@@ -14,8 +14,7 @@ use Rattle.layout.specs.Answer.{Answer, got, refused, pick, after, means, endAt
 use Rattle.layout.specs.Bytes.{Bytes, number}
 use Rattle.layout.specs.Refusals.{END, RECORD, LONG}
 use Rattle.layout.proofs.laws.Accepted.{Accepts, accepts-any, accepts-all, accepts-both, accepts-means, accepts-after, accepts-pick, accepts-span, accepts-field}
-use Rattle.layout.proofs.laws.Numbers.{Bytes-take}
-use Rattle.layout.proofs.laws.Tidied.{zero-one}
+use Rattle.layout.proofs.laws.Numbers.{Bytes-take, zero-one}
 use Rattle.wire.specs.Container.{containerAt}
 use Rattle.wire.specs.Places.{numAt}
 use Rattle.wire.specs.Refused.{announced, kindIn}

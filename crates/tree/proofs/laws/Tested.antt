@@ -10,7 +10,7 @@ use borrow.Author.Tests.{eqb-true, ltb-true, ltb-false}
 use lib.ListN.{length}
 use lib.Dec.{eqb, ltb}
 use Rattle.layout.specs.Answer.{pick}
-use Rattle.layout.proofs.laws.Tidied.{zero-one}
+use Rattle.layout.proofs.laws.Numbers.{zero-one}
 use Rattle.tree.specs.Listed.{times, Every, none, more, Sorted, done, next}
 use Rattle.tree.specs.Way.{way, depth, Left, here, there, stops, Before, higher, beside, within, Walk}
 use Rattle.tree.proofs.Counts.{equal, miss}

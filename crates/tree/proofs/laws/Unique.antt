@@ -9,7 +9,7 @@ use lib.ListN.{length, drop}
 use Rattle.layout.specs.Answer.{Told, Answer, got, refused}
 use Rattle.layout.specs.Written.{Said, says, no, saysWritten, leftOf}
 use Rattle.layout.proofs.laws.Determined.{Tells, one-written}
-use Rattle.layout.proofs.laws.Tidied.{zero-one}
+use Rattle.layout.proofs.laws.Numbers.{zero-one}
 use Rattle.tree.specs.Table.{Table, tableAt}
 use Rattle.tree.specs.Way.{within, Walk}
 use Rattle.tree.specs.Path.{saidIf, pathsSaid, endsSaid, Walked, AllPaths}

@@ -16,7 +16,7 @@ use Rattle.layout.specs.Grammar.{loose, empty, Number, num, _then_, both, lead,
 use Rattle.layout.specs.Format.{Format}
 use Rattle.layout.proofs.laws.Make.{nothing-format, number-format, then-format, lead-format, such-format, as-format, field-format, repeat-format, repeat-length, spare-format, cells-format, count-format}
 use Rattle.layout.proofs.laws.Single.{Single, single-empty, single-number, single-as, single-counted}
-use Rattle.layout.proofs.laws.Tidied.{zero-one}
+use Rattle.layout.proofs.laws.Numbers.{zero-one}
 use Rattle.wire.specs.Layout.{signed, Kind, sint, uint, wide, width, kinds, meaning, paired, Units, text-count, Text, Shape, one, many, string, undef, shape-or, shape, Val, Shaped, Value, Row, Form, list, no-form, Formed, form-byte, FormOf, reading, Fields, Property, Enable}
 use Rattle.wire.specs.Codecs.{unsigned, number-of, all-units, units, text, array, shaped, value, row, three, listed, form-write, formed, form, fields, property, enable}
 

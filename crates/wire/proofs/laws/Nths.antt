@@ -15,7 +15,7 @@ use Rattle.layout.specs.Codec.{repeated}
 use Rattle.layout.specs.Grammar.{loose}
 use Rattle.layout.proofs.laws.Make.{repeat-format, repeat-length}
 use Rattle.layout.proofs.laws.Reading.{pick-alike}
-use Rattle.layout.proofs.laws.Tidied.{zero-one}
+use Rattle.layout.proofs.laws.Numbers.{zero-one}
 use Rattle.wire.specs.declared.list.Step.{Step}
 use Rattle.wire.specs.declared.list.Values.{Values}
 use Rattle.wire.specs.Description.{PropInfo}

@@ -23,9 +23,8 @@ use Rattle.layout.specs.Codec.{celled}
 use Rattle.layout.specs.Grammar.{Number}
 use Rattle.layout.specs.Written.{says, no}
 use Rattle.layout.proofs.laws.Make.{cells-all, cells-format}
-use Rattle.layout.proofs.laws.Numbers.{length-bytes}
+use Rattle.layout.proofs.laws.Numbers.{length-bytes, zero-one}
 use Rattle.layout.proofs.laws.Single.{single-number, single-repeat}
-use Rattle.layout.proofs.laws.Tidied.{zero-one}
 use Rattle.layout.specs.Refusals.{TEXT, COUNT}
 use Rattle.wire.specs.declared.given.Bits.{Bits}
 use Rattle.wire.specs.Layout.{paired}

@@ -12,7 +12,7 @@ use Rattle.layout.specs.Answer.{Answer, got, refused}
 use Rattle.layout.specs.Bytes.{Bytes}
 use Rattle.layout.specs.Grammar.{loose}
 use Rattle.layout.proofs.laws.Meets.{filled, reads-exactly}
-use Rattle.layout.proofs.laws.Tidied.{zero-one}
+use Rattle.layout.proofs.laws.Numbers.{zero-one}
 use Rattle.layout.proofs.laws.Words.{self}
 use Rattle.wire.specs.Description.{PropInfo}
 use Rattle.wire.specs.Layout.{Val, shape, Value}

@@ -16,8 +16,7 @@ use Rattle.layout.specs.Bytes.{bytes, number}
 use Rattle.layout.specs.Refusals.{KIND, COUNT}
 use Rattle.layout.specs.Written.{says, no, Wrote}
 use Rattle.layout.proofs.laws.Did.{Whole, whole}
-use Rattle.layout.proofs.laws.Numbers.{length-bytes, number-bytes}
-use Rattle.layout.proofs.laws.Tidied.{zero-one}
+use Rattle.layout.proofs.laws.Numbers.{length-bytes, number-bytes, zero-one}
 use Rattle.wire.specs.Container.{isKind, headerAt, containerAt, containerWord, containerSaid, paramBytes, commandSaid, saysHeader, saysContainer}
 use Rattle.wire.specs.Tests.{fails, Otherwise, otherwise}
 use Rattle.wire.specs.Refused.{announced, kindIn, codeIn, numberIn, HeaderTests, HeaderSays, ContainerSays}

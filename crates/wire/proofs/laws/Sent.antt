@@ -10,7 +10,7 @@ use lib.Dec.{leb}
 use lib.ListN.{length}
 use Rattle.layout.specs.Answer.{pick, bare}
 use Rattle.layout.specs.Written.{says, no}
-use Rattle.layout.proofs.laws.Tidied.{zero-one}
+use Rattle.layout.proofs.laws.Numbers.{zero-one}
 use Rattle.layout.specs.Refusals.{KIND, COUNT}
 use Rattle.wire.specs.Container.{isKind, containerWord, containerSaid, paramBytes, commandSaid}
 use Rattle.wire.specs.declared.container.Command.{Command}

@@ -7,7 +7,7 @@ use Prim.Native.Nat.{ℕ}
 use lib.ListN.{getD}
 use Rattle.layout.specs.Answer.{Told, Answer, got, refused}
 use Rattle.layout.proofs.laws.Determined.{Tells, retracts}
-use Rattle.layout.proofs.laws.Tidied.{zero-one}
+use Rattle.layout.proofs.laws.Numbers.{zero-one}
 use Rattle.wire.specs.declared.Cursor.{Cursor}
 use Rattle.wire.specs.declared.Span.the-variants as span
 use Rattle.wire.specs.declared.ReadU8.the-variants as readU8

@@ -7,7 +7,7 @@ use borrow.Author.Needs.{needs}
 use denote.Ref.{now}
 use lib.ListN.{length}
 use Rattle.layout.proofs.laws.Reading.{heard}
-use Rattle.layout.proofs.laws.Tidied.{zero-one}
+use Rattle.layout.proofs.laws.Numbers.{zero-one}
 use Rattle.wire.specs.List.{saysStep}
 use Rattle.wire.specs.Says.{located}
 use Rattle.panel.proofs.Members.{Seeks, within, hit, miss, none-left, fewer}

@@ -1,7 +1,7 @@
 -- `settings::row::has_at`: where they have room. Assumes nothing.
 use Prim.Native.Nat.{_-_}
 use denote.Ref.{now}
-use Rattle.layout.proofs.laws.Tidied.{zero-one}
+use Rattle.layout.proofs.laws.Numbers.{zero-one}
 use Rattle.settings.proofs.Rows.{none-same, short-bytes}
 use borrow.Author.Needs.{needs}
 use Rattle.settings.proofs.row.has_at.Statement.{statement}

@@ -4,7 +4,7 @@ use Prim.Native.Nat.{ℕ, _+_, _-_, _≤_, _<_}
 use native.Mathlib.Omega.{arith}
 use denote.Ref.{now}
 use lib.ListN.{length, getD}
-use Rattle.layout.proofs.laws.Tidied.{zero-one}
+use Rattle.layout.proofs.laws.Numbers.{zero-one}
 use Rattle.settings.proofs.Rows.{bytes-same, same-bytes, from-before}
 use Rattle.settings.proofs.row.same_at.Statement.{statement}
 use Rattle.settings.proofs.row.same_at.Tie as tie
