@@ -1,29 +1,13 @@
 -- `wire::Cursor::i8`: what `int_at` reads, narrowed to its own width. Assumes nothing.
-use mathlib.Core.Path.{subst, _∙_, ap}
+use mathlib.Core.Path.{refl}
 use lib.Dec.{lit≤}
-use mir.Syntax.{w8, w64}
-use mir.ValLaws.{toZ-ofZ}
-use Rattle.layout.specs.Answer.{got}
-use Rattle.layout.proofs.laws.Reading.{heard}
-use Rattle.wire.specs.Says.{saysI64, Signs}
-use Rattle.wire.proofs.Twos.{narrow, signed-fits, wider}
+use mir.Syntax.{w8}
 use borrow.Author.Needs.{needs}
+use Rattle.layout.proofs.laws.Reading.{heard}
+use Rattle.wire.specs.Says.{saysI64}
+use Rattle.wire.proofs.Twos.{narrow-fits, narrow-says}
 use Rattle.wire.proofs.Cursor.i8.Statement.{statement}
 use Rattle.wire.proofs.Cursor.i8.Tie as tie
-
-cast-t9 : tie.Need-cast-t9
-cast-t9 c =
-    let v = c .before .v in
-    let small = subst (Signs 1) (v .given .1) (c .before .before .before .int-at .ensures .small) in
-    let fits = signed-fits w8 (small .0) (v .given .0 .0) (small .1) (small .2) in
-    rw (toZ-ofZ w64 (v .given .0 .0) (wider w8 _ (lit≤ tt) fits)) fits
-
-returns : tie.Need-returns
-returns c =
-    let v = c .before .v in
-    let small = subst (Signs 1) (v .given .1) (c .before .before .before .int-at .ensures .small) in
-    let fits = signed-fits w8 (small .0) (v .given .0 .0) (small .1) (small .2) in
-    ap (λ z. got z (v .given .0 .1 .0 .at)) (narrow w8 (v .given .0 .0) (lit≤ tt) fits) ∙ heard saysI64 (v .given .1) (c .before .before .before .int-at .ensures .says)
 
 pub i8-spec : {M : Type 1} → statement M
 i8-spec =
@@ -31,7 +15,7 @@ i8-spec =
     (tie.spec
     (λ c κs. search needs)
     (λ c. search needs)
-    cast-t9
+    (λ c. narrow-fits w8 1 refl (lit≤ tt) (c .before .v .given .1) (c .before .before .before .int-at .ensures))
     (λ c. search needs)
-    returns
+    (λ c. narrow-says w8 1 refl (lit≤ tt) (c .before .v .given .1) (c .before .before .before .int-at .ensures))
     (λ c. heard saysI64 (c .before .f .given .1) (c .before .before .before .int-at .ensures .says)))
