@@ -25,7 +25,7 @@ use Rattle.mending.specs.Run.{filled, Ran, stops, again, reads}
 use Rattle.mending.proofs.Sweeping.{Sound, tally-same, sane-by, sweep-none}
 use Rattle.mending.proofs.Stretched.{stretch-none}
 use Rattle.mending.proofs.Going.{closes-so, window-so}
-use Rattle.mending.proofs.Cutting.{text, told, text-whole, told-whole, parts-whole, text-none, told-none, parts-none}
+use Rattle.mending.proofs.Cutting.{told, text-whole, told-whole, parts-whole, text-none, told-none, parts-none}
 use Rattle.mending.proofs.Laws.{pieces-tile}
 use Rattle.mending.proofs.Turning.{lies-so, lies-both, held-long, used-most, turn-lies}
 use Rattle.mending.proofs.Windows.{Tells, Done, window-tells, moves-on, stretch-few, done-more, sound-left}

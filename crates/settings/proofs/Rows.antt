@@ -21,7 +21,7 @@ use Rattle.wire.specs.Places.{numAt}
 use Rattle.settings.specs.Refusals.{FULL}
 use Rattle.settings.specs.Layout.{Key, Keyed, key-discrete, decided, sameKey, holds, limit}
 use Rattle.settings.specs.Entry.{entryAt, keyIn}
-use Rattle.settings.specs.Row.{settingsIn, rowFrom, rowOf, saysChecked, Whole}
+use Rattle.settings.specs.Row.{settingsIn, rowFrom, rowOf, saysChecked}
 use Rattle.settings.specs.Search.{Chain, stop, link, Chained, placeOf, Seeks}
 use Rattle.settings.specs.declared.entry.Edition.{Edition}
 use Rattle.settings.specs.declared.entry.Entry.{Entry}

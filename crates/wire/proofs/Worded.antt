@@ -8,12 +8,10 @@ use native.Mathlib.Omega.{arith}
 use lib.ListN.{length, take, drop, length-take, length-drop}
 use Rattle.layout.specs.Answer.{Answer, got, refused, after, means}
 use Rattle.layout.specs.Bytes.{Bytes}
-use Rattle.layout.specs.Format.{word}
 use Rattle.layout.specs.Grammar.{Number, Repeat}
 use Rattle.layout.proofs.laws.Make.{cells-all}
 use Rattle.layout.proofs.laws.Numbers.{Bytes-take, Bytes-drop, zero-one}
 use Rattle.layout.proofs.laws.Reading.{cells-take}
-use Rattle.layout.proofs.laws.Words.{fits}
 use Rattle.wire.specs.declared.Part.{Part}
 use Rattle.wire.specs.Layout.{meaning, width, Shape, one, many, string, undef, shape}
 use Rattle.wire.specs.Places.{numAt, textAt, arrayAt, itemsIn, Located, number-is, items, units, empty, shapeAt, valueAt, shapeIn, rowAt, rowIn}

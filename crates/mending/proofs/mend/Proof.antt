@@ -2,7 +2,6 @@
 use native.Mathlib.Omega.{arith}
 use denote.Ref.{now}
 use lib.ListN.{length}
-use Rattle.mending.specs.Mended.{least}
 use Rattle.mending.proofs.Sweeping.{fresh-sane}
 use Rattle.mending.proofs.Going.{least-is}
 use Rattle.mending.proofs.Whole.{mends-short, mends-few, mends-done}

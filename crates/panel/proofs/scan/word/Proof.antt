@@ -1,7 +1,6 @@
 -- `panel::scan::word`: each width by itself; there is no other. Assumes nothing.
 use borrow.Author.Needs.{needs}
 use mathlib.Core.Path.{sym, _∙_}
-use Prim.Native.Nat.{_-_}
 use native.Mathlib.Omega.{arith}
 use denote.Ref.{now}
 use Rattle.panel.proofs.Scanning.{one-word, eight}

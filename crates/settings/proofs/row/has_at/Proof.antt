@@ -1,5 +1,4 @@
 -- `settings::row::has_at`: where they have room. Assumes nothing.
-use Prim.Native.Nat.{_-_}
 use denote.Ref.{now}
 use Rattle.layout.proofs.laws.Numbers.{zero-one}
 use Rattle.settings.proofs.Rows.{none-same, short-bytes}
