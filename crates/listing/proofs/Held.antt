@@ -34,7 +34,7 @@ module _ (w : List ℕ) (from held end : ℕ) (e : end ≡ pick (leb held (lengt
       go true h e = rw e
       go false h e = rw e (part-from w from ∙ sym (take-all (held - from) (drop from w) (rw (length-drop from w) (omega (arith, leb-false held (length w) h)))))
 
-  pub unlisted-length : length (unlisted w from held) ≡ end - from
+  unlisted-length : length (unlisted w from held) ≡ end - from
   unlisted-length = rw (← unlisted-is) (length-take-le (end - from) (drop from w) (rw (length-drop from w) (omega (arith, end-within))))
 
 -- a part that begins past its end is empty wherever it is said to begin
@@ -65,7 +65,7 @@ pub moved-none : (w : List ℕ) (from : ℕ) → w ≡ moved w from 0
 moved-none w from = refl
 
 -- a byte that has not moved yet stands where it stood
-pub still-there : (w : List ℕ) (from i : ℕ) → from + i < length w → getD (moved w from i) (from + i) 0 ≡ getD (drop from w) i 0
+still-there : (w : List ℕ) (from i : ℕ) → from + i < length w → getD (moved w from i) (from + i) 0 ≡ getD (drop from w) i 0
 still-there w from i h =
     let l = length-take-le i (drop from w) (rw (length-drop from w) (omega arith)) in
     let k : from + i ≡ length (take i (drop from w)) + from = omega arith in

@@ -18,7 +18,7 @@ below : (b least n j k : ℕ) → 1 ≤ b → Fewest b least n j → Fewest b le
 below b least n j k h p q l = let m : b ^ j ≤ b ^ (k - 1) = pow-le-pow-right h (omega arith) in omega (arith, p .1, q .2 (omega (arith, p .0)))
 
 -- two counts of fewest digits are the same
-pub one-count : (b least n j k : ℕ) → 1 ≤ b → Fewest b least n j → Fewest b least n k → j ≡ k
+one-count : (b least n j k : ℕ) → 1 ≤ b → Fewest b least n j → Fewest b least n k → j ≡ k
 one-count b least n j k h p q = omega (arith, below b least n j k h p q, below b least n k j h q p)
 
 module _ (n : ℕ) where

@@ -29,11 +29,11 @@ ten-glyph : (d : ℕ) → d < 10 → glyph d ≡ 48 + d
 ten-glyph d h = rw (lt-ltb d 10 h)
 
 -- one digit
-pub spelled-one : (out : List ℕ) (at k n : ℕ) → put out at (digits 10 (suc k) n) ≡ put (set out (at + k) (48 + n % 10)) at (digits 10 k (n / 10))
+spelled-one : (out : List ℕ) (at k n : ℕ) → put out at (digits 10 (suc k) n) ≡ put (set out (at + k) (48 + n % 10)) at (digits 10 k (n / 10))
 spelled-one out at k n = put-last out at (digits 10 k (n / 10)) (glyph (n % 10)) ∙ rw (digits-length 10 k (n / 10), ten-glyph (n % 10) (omega arith))
 
 -- two digits of a number of two
-pub spelled-two : (out : List ℕ) (at k n : ℕ) → put out at (digits 10 (suc (suc k)) n) ≡ put (set (set out (at + k + 1) (48 + n % 100 % 10)) (at + k) (48 + n % 100 / 10)) at (digits 10 k (n / 100))
+spelled-two : (out : List ℕ) (at k n : ℕ) → put out at (digits 10 (suc (suc k)) n) ≡ put (set (set out (at + k + 1) (48 + n % 100 % 10)) (at + k) (48 + n % 100 / 10)) at (digits 10 k (n / 100))
 spelled-two out at k n =
     let a : at + suc k ≡ at + k + 1 = omega arith in
     let ten : 0 < 10 = lit< tt in

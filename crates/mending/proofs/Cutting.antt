@@ -44,11 +44,11 @@ enough (suc f) (suc g) place s h k =
     (accepts-all (Stands s) _ (recordOf s) (record-stands s) λ x n p. enough f g (place + n) (drop n s) (omega (arith, length-drop n s, p .till)) (omega (arith, length-drop n s, p .till)))
     (enough f g (place + 1) (drop 1 s) (omega (arith, length-drop 1 s)) (omega (arith, length-drop 1 s))))
 
-pub cut-none : (place : ℕ) (s : List ℕ) → length s ≤ 0 → cutAt place s ≡ []
+cut-none : (place : ℕ) (s : List ℕ) → length s ≤ 0 → cutAt place s ≡ []
 unfolding cutAt
 cut-none place s h = cut-from-none (length s) place s h
 
-pub cut-step : (place : ℕ) (s : List ℕ) → 0 < length s → cutAt place s ≡ pieced place (recordOf s) (λ n. cutAt (place + n) (drop n s))
+cut-step : (place : ℕ) (s : List ℕ) → 0 < length s → cutAt place s ≡ pieced place (recordOf s) (λ n. cutAt (place + n) (drop n s))
 unfolding cutAt cutFrom
 cut-step place s h =
     enough (length s) (suc (length s)) place s (omega arith) (omega arith)
@@ -57,10 +57,10 @@ cut-step place s h =
     (accepts-all (Stands s) _ (recordOf s) (record-stands s) λ x n p. enough (length s) (length (drop n s)) (place + n) (drop n s) (rw (length-drop n s) (omega arith)) (omega arith))
     (enough (length s) (length (drop 1 s)) (place + 1) (drop 1 s) (rw (length-drop 1 s) (omega arith)) (omega arith)))
 
-pub cut-got : (place : ℕ) (s : List ℕ) {x : Record} {n : ℕ} → 0 < length s → got x n ≡ recordOf s → cutAt place s ≡ kept (part place n) ∷ cutAt (place + n) (drop n s)
+cut-got : (place : ℕ) (s : List ℕ) {x : Record} {n : ℕ} → 0 < length s → got x n ≡ recordOf s → cutAt place s ≡ kept (part place n) ∷ cutAt (place + n) (drop n s)
 cut-got place s h e = cut-step place s h ∙ ap (λ y. pieced place y (λ n. cutAt (place + n) (drop n s))) (sym e)
 
-pub cut-refused : (place : ℕ) (s : List ℕ) {t : Told} → 0 < length s → refused t ≡ recordOf s → cutAt place s ≡ dropped (part place 1) ∷ cutAt (place + 1) (drop 1 s)
+cut-refused : (place : ℕ) (s : List ℕ) {t : Told} → 0 < length s → refused t ≡ recordOf s → cutAt place s ≡ dropped (part place 1) ∷ cutAt (place + 1) (drop 1 s)
 cut-refused place s h e = cut-step place s h ∙ ap (λ y. pieced place y (λ n. cutAt (place + n) (drop n s))) (sym e)
 
 -- ── the kept bytes, the stretches and the number of records, from a place on ──
@@ -164,11 +164,11 @@ module _ (P : ℕ → List ℕ → Type 0) (none : (place : ℕ) (s : List ℕ) 
 
 -- ── past the bytes of a gap ──
 
-pub text-drops : {last : Bool} {s : List ℕ} {from at : ℕ} → Drops last s from at → text from (drop from s) ≡ text at (drop at s)
+text-drops : {last : Bool} {s : List ℕ} {from at : ℕ} → Drops last s from at → text from (drop from s) ≡ text at (drop at s)
 text-drops none-dropped = refl
 text-drops {s = s} (one-dropped {at} d h w e) = text-drops d ∙ text-refused at (drop at s) (some-bytes s at h) e ∙ ap (text (at + 1)) (drop-drop 1 at s)
 
-pub told-drops : {last : Bool} {s : List ℕ} {from at : ℕ} → Drops last s from at → (untold : ℕ) → told from untold (drop from s) ≡ told at (untold + (at - from)) (drop at s)
+told-drops : {last : Bool} {s : List ℕ} {from at : ℕ} → Drops last s from at → (untold : ℕ) → told from untold (drop from s) ≡ told at (untold + (at - from)) (drop at s)
 told-drops {s = s} {from = from} none-dropped untold = let none : untold + (from - from) ≡ untold = omega arith in rw none
 told-drops {s = s} {from = from} (one-dropped {at} d h w e) untold =
     let more : untold + (at - from) + 1 ≡ untold + (at + 1 - from) = omega (arith, drops-least d) in
@@ -176,7 +176,7 @@ told-drops {s = s} {from = from} (one-dropped {at} d h w e) untold =
 
 -- ── past the records of a row ──
 
-pub text-keeps : {s : List ℕ} {from at k : ℕ} → Keeps s from at k → length (text from (drop from s)) ≡ at - from + length (text at (drop at s))
+text-keeps : {s : List ℕ} {from at k : ℕ} → Keeps s from at k → length (text from (drop from s)) ≡ at - from + length (text at (drop at s))
 text-keeps {s} {from} none-kept = omega arith
 text-keeps {s} {from} (one-kept {at} {n = n} d h e) =
     let p = accepted (Stands (drop at s)) (record-stands (drop at s)) e in
@@ -192,7 +192,7 @@ told-more s from at zero n untold d h e on =
 told-more s from at (suc j) n untold d h e on =
     on (omega arith) ∙ ap (λ ps. stretch from untold ++ ps) (told-got at (drop at s) (some-bytes s at h) e 0 ∙ ap (told (at + n) 0) (drop-drop n at s))
 
-pub told-keeps : {s : List ℕ} {from at k : ℕ} → Keeps s from at k → 0 < k → (untold : ℕ) → told from untold (drop from s) ≡ stretch from untold ++ told at 0 (drop at s)
+told-keeps : {s : List ℕ} {from at k : ℕ} → Keeps s from at k → 0 < k → (untold : ℕ) → told from untold (drop from s) ≡ stretch from untold ++ told at 0 (drop at s)
 told-keeps none-kept some untold = absurd (not-suc-le-zero some)
 told-keeps {s} {from} (one-kept {at} {k} {n} d h e) some untold = told-more s from at k n untold d h e (λ j. told-keeps d j untold)
 

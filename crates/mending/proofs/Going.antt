@@ -108,7 +108,7 @@ goes w out starts lengths = record {
 }
 
 module _ {w rest : Windowed} {out₀ out starts₀ starts lengths₀ lengths : List ℕ} {used written told : ℕ} (g : Goes w rest out₀ out starts₀ starts lengths₀ lengths used written told) where
-  pub goes-past : (n : ℕ) {next : Windowed} → rest ≡ before [] [] n next → Goes w next out₀ out starts₀ starts lengths₀ lengths (used + n) written told
+  goes-past : (n : ℕ) {next : Windowed} → rest ≡ before [] [] n next → Goes w next out₀ out starts₀ starts lengths₀ lengths (used + n) written told
   goes-past n {next} e =
       let o : rest .used ≡ n + next .used = ap (λ (x : Windowed). x .used) e in
       record {
@@ -122,7 +122,7 @@ module _ {w rest : Windowed} {out₀ out starts₀ starts lengths₀ lengths : L
         lengths-fit = g .lengths-fit;
       }
 
-  pub goes-on : (n : ℕ) {next : Windowed} {out′ starts′ lengths′ : List ℕ} {written′ told′ : ℕ} (text : List ℕ) (ps : List Part) → rest ≡ before text ps n next →
+  goes-on : (n : ℕ) {next : Windowed} {out′ starts′ lengths′ : List ℕ} {written′ told′ : ℕ} (text : List ℕ) (ps : List Part) → rest ≡ before text ps n next →
       Put out written text out′ written′ → written + length text ≤ length out → Put starts told (startsOf ps) starts′ told′ → Put lengths told (lengthsOf ps) lengths′ told′ →
       told + length ps ≤ length starts → told + length ps ≤ length lengths →
       Goes w next out₀ out′ starts₀ starts′ lengths₀ lengths′ (used + n) written′ told′

@@ -111,7 +111,7 @@ module _ (last : Bool) where
   unfolding sweepOf sweepFrom
   sweep-waits room slots s t h w = enough (length s) (suc (length s)) room slots s t (omega arith) (omega arith) ∙ rw (lt-ltb 0 (length s) h, w)
 
-  pub sweep-step : (room slots : ℕ) (s : List ℕ) (t : Tally) → 0 < length s → waits last s ≡ false →
+  sweep-step : (room slots : ℕ) (s : List ℕ) (t : Tally) → 0 < length s → waits last s ≡ false →
       sweepOf last room slots s t ≡ judged room slots s t (recordOf s) (λ r k n u. sweepOf last r k (drop n s) u)
   unfolding sweepOf sweepFrom
   sweep-step room slots s t h w =
@@ -214,7 +214,7 @@ module _ (last : Bool) where
   sweep-keeps room slots t {s} {from} (one-kept {at} {k} {n} d h e) some r q = rowed-more room slots t s from at k n d h e (λ j. sweep-keeps room slots t d j (omega arith) q) r q
 
   -- the first of them
-  pub record First (s : List ℕ) (from : ℕ) : Type 0 where
+  record First (s : List ℕ) (from : ℕ) : Type 0 where
     pub found : Record
     pub taken : ℕ
     pub some : from < length s
@@ -224,7 +224,7 @@ module _ (last : Bool) where
   first-more s from at zero n {x} d h e f = let here : at ≡ from = keeps-none d refl in record { found = x; taken = n; some = omega (arith, here); read = rw here at e }
   first-more s from at (suc j) n d h e f = f (omega arith)
 
-  pub keeps-first : {s : List ℕ} {from at k : ℕ} → Keeps s from at k → 0 < k → First s from
+  keeps-first : {s : List ℕ} {from at k : ℕ} → Keeps s from at k → 0 < k → First s from
   keeps-first none-kept some = absurd (not-suc-le-zero some)
   keeps-first {s} {from} (one-kept {at} {k} {n} d h e) some = first-more s from at k n d h e (λ j. keeps-first d j)
 

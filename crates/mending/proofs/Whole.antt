@@ -71,7 +71,7 @@ whole-from (suc f) room slots s t h = go (ltb 0 (length s)) refl (recordOf s) re
     go true e (got x n) f p on = whole-got room slots s t (ltb-true 0 (length s) e) f p (on (room - n) (slots - length (opened t)) n (keeps t 1 n) (less n (omega (arith, p .till))))
     go true e (refused u) f p on = whole-refused room slots s t (ltb-true 0 (length s) e) f (on room slots 1 (drops t 1) (less 1 (omega arith)))
 
-pub sweep-whole : (room slots : ℕ) (s : List ℕ) → length (mendSaid s) ≤ room → length (droppedOf s) ≤ slots → (sweepOf true room slots s fresh .text ≡ mendSaid s) × (sweepOf true room slots s fresh .told ≡ droppedOf s)
+sweep-whole : (room slots : ℕ) (s : List ℕ) → length (mendSaid s) ≤ room → length (droppedOf s) ≤ slots → (sweepOf true room slots s fresh .text ≡ mendSaid s) × (sweepOf true room slots s fresh .told ≡ droppedOf s)
 unfolding Whole
 sweep-whole room slots s h k =
     let w = whole-from (length s) room slots s fresh (omega arith) (omega (arith, ap length (text-whole s))) (omega (arith, ap length (told-whole s))) in

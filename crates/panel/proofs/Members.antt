@@ -146,7 +146,7 @@ pub decided-yes : {A : Type 0} (d : Dec A) → A → decided d ≡ true
 decided-yes (yes p) a = refl
 decided-yes (no f) a = absurd (f a)
 
-pub decided-no : {A : Type 0} (d : Dec A) → (A → ⊥) → decided d ≡ false
+decided-no : {A : Type 0} (d : Dec A) → (A → ⊥) → decided d ≡ false
 decided-no (yes p) f = absurd (f p)
 decided-no (no f) g = refl
 

@@ -68,7 +68,7 @@ row-none s at h = row-from-none (length s) s at h
 abbrev joined : List ℕ → Record → ℕ → Answer (List Record)
 joined s x n = means (λ xs. x ∷ xs) (rest s n)
 
-pub row-step : (s : List ℕ) (at : ℕ) → at < length s → rest s at ≡ after (recordAt s at) (joined s)
+row-step : (s : List ℕ) (at : ℕ) → at < length s → rest s at ≡ after (recordAt s at) (joined s)
 unfolding rowFrom
 row-step s at h =
     row-enough (length s) (suc (length s)) s at (omega arith) (omega arith)
@@ -170,7 +170,7 @@ not-took : {x : Answer (List ℕ)} {t : Told} → x ≡ refused t → took x ≡
 not-took {x} {t} e h = let f : false ≡ true = rw e at h in zero-one (cc)
 
 -- by the head alone, where the whole row is accepted
-pub kept-turn : (s : List ℕ) (at : ℕ) → at < length s → took (kept-from s at) ≡ true → {h : Head} {n : ℕ} → got h n ≡ headAt s at →
+kept-turn : (s : List ℕ) (at : ℕ) → at < length s → took (kept-from s at) ≡ true → {h : Head} {n : ℕ} → got h n ≡ headAt s at →
     kept-from s at ≡ means (λ ws. part s (h .kind) at (h .body .count) ++ ws) (kept-from s n)
 kept-turn s at within all {h} {n} e = go (recordAt s at) refl (record-head s at)
   where
@@ -185,7 +185,7 @@ pub kept-stops : (s : List ℕ) (at : ℕ) → at < length s → took (kept-from
 unfolding recordAt after
 kept-stops s at within all {t} e = not-took (kept-refused s at within (ap (λ y. after y λ h end. means (λ c. record { kind = h .kind; body = h .body; content = c }) (contentAt (h .kind) (take end s) (h .body .start))) e)) all
 
-pub kept-none : (s : List ℕ) (at : ℕ) → length s ≤ at → spelling (kept-from s at) ≡ []
+kept-none : (s : List ℕ) (at : ℕ) → length s ≤ at → spelling (kept-from s at) ≡ []
 unfolding means keptOf
 kept-none s at h = ap (λ y. spelling (means (keptOf s) y)) (row-none s at h)
 

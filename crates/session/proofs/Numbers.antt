@@ -123,7 +123,7 @@ example-past-the-last = refl
 
 -- by any maker, whatever bytes are due
 module _ {x : Session} {code : ℕ} {said : ℕ → Said} {old new : List ℕ} {t : Turn} {n : ℕ} where
-  pub made-row : Makes x code said old (got t n) new → Row (x .number) code (t .number) (t .next .number)
+  made-row : Makes x code said old (got t n) new → Row (x .number) code (t .number) (t .next .number)
   unfolding means
   made-row m = of (m .written) (m .answers)
     where

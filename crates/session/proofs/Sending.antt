@@ -19,7 +19,7 @@ use Rattle.session.specs.Transaction.{together}
 -- ── a part that was lent from a place on ──
 
 module _ (out : List ℕ) (at : ℕ) where
-  abbrev pub tail : List ℕ
+  abbrev tail : List ℕ
   tail = take (length out - at) (drop at out)
 
   -- out, once the part is back

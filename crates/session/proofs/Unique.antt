@@ -5,7 +5,7 @@ use mathlib.Core.List.{List}
 use Prim.Native.Nat.{ℕ}
 use Rattle.layout.specs.Answer.{Answer, got, refused, means}
 use Rattle.layout.specs.Written.{Said}
-use Rattle.layout.proofs.laws.Determined.{Tells, retracts, reads-one}
+use Rattle.layout.proofs.laws.Determined.{Tells, retracts}
 use Rattle.session.specs.Search.{Reply, payload, response, saysFound}
 use Rattle.session.specs.Transaction.{Turn, turn, saysMade, Makes}
 use Rattle.session.specs.declared.search.Found.{Found}
@@ -43,6 +43,3 @@ tells-found = retracts back told
     told (found.Payload p c) = refl
     told (found.Response code c) = refl
     told (found.Refused t) = refl
-
-pub one-found : (what : Answer Reply) (x y : Found) → saysFound x ≡ what → saysFound y ≡ what → x ≡ y
-one-found = reads-one tells-found

@@ -29,7 +29,7 @@ use Rattle.settings.proofs.Rows.{not-both, same-true, true-same, forwar
 
 -- ── one for each key ──
 
-pub settings-snoc : (s : List ℕ) (xs : List Entry) (x : Entry) → settingsIn s (xs ++ (x ∷ [])) ≡ settingsIn s xs ++ (settingIn s x ∷ [])
+settings-snoc : (s : List ℕ) (xs : List Entry) (x : Entry) → settingsIn s (xs ++ (x ∷ [])) ≡ settingsIn s xs ++ (settingIn s x ∷ [])
 settings-snoc s [] x = refl
 settings-snoc s (y ∷ xs) x = ap (λ l. settingIn s y ∷ l) (settings-snoc s xs x)
 
@@ -40,7 +40,7 @@ same-sym a b e = go (sameKey b a) refl
     go true f = absurd (not-both (true-same a b (sym (same-true b a f))) e)
     go false f = refl
 
-pub holds-snoc : (k : Key) (xs : List Setting) (x : Setting) → holds k xs ≡ false → sameKey k (x .key) ≡ false → holds k (xs ++ (x ∷ [])) ≡ false
+holds-snoc : (k : Key) (xs : List Setting) (x : Setting) → holds k xs ≡ false → sameKey k (x .key) ≡ false → holds k (xs ++ (x ∷ [])) ≡ false
 unfolding holds
 holds-snoc k [] x e f = rw f
 holds-snoc k (y ∷ xs) x e f = go (sameKey k (y .key)) e (λ i. holds-snoc k xs x i f)
@@ -49,7 +49,7 @@ holds-snoc k (y ∷ xs) x e f = go (sameKey k (y .key)) e (λ i. holds-snoc k xs
     go true e r = zero-one (cc)
     go false e r = r e
 
-pub distinct-snoc : (xs : List Setting) (x : Setting) → Distinct xs → holds (x .key) xs ≡ false → Distinct (xs ++ (x ∷ []))
+distinct-snoc : (xs : List Setting) (x : Setting) → Distinct xs → holds (x .key) xs ≡ false → Distinct (xs ++ (x ∷ []))
 unfolding holds
 distinct-snoc [] x d e = (refl, tt)
 distinct-snoc (y ∷ xs) x d e = go (sameKey (x .key) (y .key)) refl e (λ i. distinct-snoc xs x (d .1) i)

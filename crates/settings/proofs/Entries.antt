@@ -43,7 +43,7 @@ number-complete k st lt = (number-format k) .complete st (num lt)
 
 -- ── bytes that end with the entry ──
 
-pub part-front : (i k n : ℕ) (s : List ℕ) → i + k ≤ n → take k (drop i (take n s)) ≡ take k (drop i s)
+part-front : (i k n : ℕ) (s : List ℕ) → i + k ≤ n → take k (drop i (take n s)) ≡ take k (drop i s)
 part-front i k n s h =
     let m : n ≡ i + (n - i) = omega arith in
     ap (λ j. take k (drop i (take j s))) m ∙ ap (take k) (drop-take i (n - i) s) ∙ take-take k (n - i) (drop i s) (omega arith)

@@ -44,10 +44,10 @@ known-row false x f = holds refl
 
 module _ (e : Edition) (s : List ℕ) (at : ℕ) where
   -- what is answered behind it, of an entry of that kind that ends there
-  abbrev pub fieldsOf : ℕ → ℕ → Answer Entry
+  abbrev fieldsOf : ℕ → ℕ → Answer Entry
   fieldsOf kind end = after (fieldsAt at kind (take end s) (at + 6)) λ x n. pick (eqb n end) (got x n) (refused (bare TRAIL))
 
-  pub record Behind (d : List ℕ) (x : Answer Entry) : Type 0 where
+  record Behind (d : List ℕ) (x : Answer Entry) : Type 0 where
     pub known : knows e (kindIn d) ≡ true
     pub six : 6 ≤ announced d
     pub whole : announced d ≤ length d
@@ -215,7 +215,7 @@ module _ (e : Edition) (s : List ℕ) (h : Bytes s) (at : ℕ) where
       subst (λ y. ContentSays at d (after y λ z n. tidyAt s z n)) (sym (b .is))
       (content-judged e s h at (announced d) (kindIn d) (b .known) (b .six) (omega (arith, b .whole, b .six)) (len .0) (len .1) (kind .0) (kind .1) d (ap (take (announced d - 4)) on) refl)
 
-  pub entry-judged : EntrySays e at (drop at s) (entryAt e s at)
+  entry-judged : EntrySays e at (drop at s) (entryAt e s at)
   unfolding entryAt
   entry-judged =
       let k : Entry → ℕ → Answer Entry = λ x n. tidyAt s x n in

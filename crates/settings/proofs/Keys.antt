@@ -125,7 +125,7 @@ own-none vendor property us {told} {tnew} {t} is wrote room w g = of ((kept (sub
     of (too-short bs e l r) = let s = said-text us bs e in omega (arith, ap length (s .2), text-short us (s .1))
 
 -- what is no key's, no entry has
-pub none-holds : {e : Edition} {s : List ℕ} {at upto : ℕ} {xs : List Entry} → Bytes s → (k : Key) → ((w : List ℕ) → Keyed tidy w k → ⊥) → Chain e s at xs upto → holds k (settingsIn s xs) ≡ false
+none-holds : {e : Edition} {s : List ℕ} {at upto : ℕ} {xs : List Entry} → Bytes s → (k : Key) → ((w : List ℕ) → Keyed tidy w k → ⊥) → Chain e s at xs upto → holds k (settingsIn s xs) ≡ false
 unfolding holds
 none-holds h k n stop = refl
 none-holds {e} {s} {at} h k n (link {m} {x} {xs} f c) = go (sameKey k (keyIn s x)) refl (none-holds h k n c)

@@ -73,7 +73,7 @@ where-put x (y ∷ ys) = go (sameKey (x .key) (y .key)) refl (where-put x ys)
 
 -- ── how many ──
 
-pub put-size : (x : Setting) (xs : List Setting) → length (put x xs) ≡ pick (holds (x .key) xs) (length xs) (suc (length xs))
+put-size : (x : Setting) (xs : List Setting) → length (put x xs) ≡ pick (holds (x .key) xs) (length xs) (suc (length xs))
 unfolding put holds
 put-size x [] = refl
 put-size x (y ∷ ys) = go (sameKey (x .key) (y .key)) (holds (x .key) ys) (put-size x ys)

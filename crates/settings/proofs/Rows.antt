@@ -90,13 +90,13 @@ false-same a b n = go (key-discrete a b)
 
 -- the word of a key stands behind an entry's length exactly where the entry has the key
 module _ {e : Edition} {s : List ℕ} {at n : ℕ} {x : Entry} (sp : Spelt e s at x n) (w : List ℕ) (k : Key) (g : Keyed tidy w k) where
-  pub key-has : take (length w) (drop (at + 4) s) ≡ w → k ≡ keyIn s x
+  key-has : take (length w) (drop (at + 4) s) ≡ w → k ≡ keyIn s x
   key-has f =
       let a = key-format .complete {s = s} {at = at + 4} (record { is = f; till = refl }) (key-format .inside g) in
       let b = key-format .complete (sp .key-there) (key-format .inside (sp .key-is)) in
       one-got (sym a ∙ b) .0
 
-  pub has-key : k ≡ keyIn s x → take (length w) (drop (at + 4) s) ≡ w
+  has-key : k ≡ keyIn s x → take (length w) (drop (at + 4) s) ≡ w
   has-key f =
       let same : w ≡ sp .key = key-format .one g ∙ ap (λ c. keyCodec .write c) f ∙ sym (key-format .one (sp .key-is)) in
       subst (λ v. take (length v) (drop (at + 4) s) ≡ v) (sym same) (sp .key-there .is)
@@ -129,13 +129,9 @@ module _ (s : List ℕ) (h : Bytes s) where
   turn stop lt = let z : ⊥ = omega arith in absurd z
   turn {e} {at} (link {m} {x} {xs} f c) lt = record { first = x; others = xs; next = m; is = refl; accepted = f; spelt = entry-sound e s at x m h f; rest = c }
 
-  pub no-more : {e : Edition} {at upto : ℕ} {xs : List Entry} → Chain e s at xs upto → upto ≤ at → (xs ≡ []) × (at ≡ upto)
+  no-more : {e : Edition} {at upto : ℕ} {xs : List Entry} → Chain e s at xs upto → upto ≤ at → (xs ≡ []) × (at ≡ upto)
   no-more stop le = (refl, refl)
   no-more {e} {at} (link {m} {x} f c) le = let sp = entry-sound e s at x m h f in let later = ahead c in let z : ⊥ = omega (arith, forward sp) in absurd z
-
-  pub end-within : {e : Edition} {at upto : ℕ} {xs : List Entry} → Chain e s at xs upto → at ≤ length s → upto ≤ length s
-  end-within stop k = k
-  end-within {e} {at} (link {m} {x} f c) k = end-within c ((entry-sound e s at x m h f) .read .within)
 
   -- ── the search ──
 

@@ -55,15 +55,15 @@ key-format =
     as-format keyFrom (then-format (number-format 2) λ kind. then-format (number-format 4) λ vendor. then-format (number-format 2) λ property. serial-format (eqb kind OWN)) keyWord λ w a g.
     ap (λ us. bytes 2 (a .0) ++ (bytes 4 (a .1 .0) ++ (bytes 2 (a .1 .1 .0) ++ us))) (serial-writes (eqb (a .0) OWN) (a .1 .1 .1))
 
-abbrev pub contentCodec : Codec Setting
+abbrev contentCodec : Codec Setting
 contentCodec = through settingFrom (keyCodec and λ key. numbered 2 and λ type. value type) contentWord
 
-pub content-format : Format Content contentCodec
+content-format : Format Content contentCodec
 content-format = as-format settingFrom (then-format key-format λ key. then-format (number-format 2) λ type. value-format type) contentWord λ w a g. refl
 
 -- ── what an entry's places mean ──
 
-pub slot-reads : (t : ℕ) (s w : List ℕ) (r n : ℕ) (v : Val) → Stands s r n w → Value t loose w v → slotIn t s (between r n) ≡ v
+slot-reads : (t : ℕ) (s w : List ℕ) (r n : ℕ) (v : Val) → Stands s r n w → Value t loose w v → slotIn t s (between r n) ≡ v
 slot-reads t s w r n v st g =
     let size : n - r ≡ length w = omega (arith, st .till) in
     rw (size, st .is, (value-format t) .complete (self w) g, eq-eqb (length w) (length w) refl)

@@ -63,13 +63,13 @@ module _ (row entry : List ℕ) (from till : ℕ) (f : from ≤ till) (g : till 
 
 module _ (e : Edition) (s : List ℕ) (h : Bytes s) where
   -- an entry's bytes
-  pub spelt-word : {at n : ℕ} {x : Entry} → Spelt e s at x n → take (n - at) (drop at s) ≡ entryWord (settingIn s x)
+  spelt-word : {at n : ℕ} {x : Entry} → Spelt e s at x n → take (n - at) (drop at s) ≡ entryWord (settingIn s x)
   spelt-word {at} {n} {x} sp =
       let size : n - at ≡ length (sp .word) = omega (arith, sp .there .till) in
       rw size (sp .there .is) ∙ entry-word (sp .is)
 
   -- the bytes from a place on, cut behind the entry there
-  pub spelt-cut : {at n : ℕ} {x : Entry} → Spelt e s at x n → drop at s ≡ entryWord (settingIn s x) ++ drop n s
+  spelt-cut : {at n : ℕ} {x : Entry} → Spelt e s at x n → drop at s ≡ entryWord (settingIn s x) ++ drop n s
   spelt-cut {at} {n} {x} sp =
       let far : at + (n - at) ≡ n = omega (arith, sp .there .till) in
       sym (take-append-drop (n - at) (drop at s)) ∙ ap (λ w. w ++ drop (n - at) (drop at s)) (spelt-word sp) ∙ ap (λ w. entryWord (settingIn s x) ++ w) (drop-drop (n - at) at s ∙ ap (λ i. drop i s) far)
@@ -80,7 +80,7 @@ module _ (e : Edition) (s : List ℕ) (h : Bytes s) where
   chain-word {at} (link {m} {x} f c) = spelt-cut (entry-sound e s at x m h f) ∙ ap (λ w. entryWord (settingIn s x) ++ w) (chain-word c)
 
   -- no entry starts at the end
-  pub end-none : endOf e s (length s) ≡ length s
+  end-none : endOf e s (length s) ≡ length s
   unfolding entryAt wholeAt fieldAt after
   end-none = rw (span-short (length s) 4 s (length s) (omega arith))
 
@@ -129,7 +129,7 @@ module _ (e : Edition) (s : List ℕ) (h : Bytes s) where
 -- ── an entry alone in its bytes ──
 
 module _ (e : Edition) (w : List ℕ) (h : Bytes w) (x : Entry) (n : ℕ) (f : aloneIn e w ≡ got x n) where
-  pub alone-entry : (entryAt e w 0 ≡ got x n) × (n ≡ length w)
+  alone-entry : (entryAt e w 0 ≡ got x n) × (n ≡ length w)
   unfolding aloneIn entryAt tidyAt after
   alone-entry =
       let a = parted (wholeAt e w 0) _ f in
@@ -148,7 +148,7 @@ module _ (e : Edition) (w : List ℕ) (h : Bytes w) (x : Entry) (n : ℕ) (f : a
       let all : n - 0 ≡ length w = omega (arith, alone-entry .1) in
       sym (ap (λ i. take i w) all ∙ take-length w) ∙ spelt-word e w h alone-spelt
 
-  pub alone-key : Keyed tidy (take (x .value .start - 2 - 4) (drop 4 w)) (keyIn w x)
+  alone-key : Keyed tidy (take (x .value .start - 2 - 4) (drop 4 w)) (keyIn w x)
   alone-key =
       let sp = alone-spelt in
       let size : x .value .start - 2 - 4 ≡ length (sp .key) = omega (arith, sp .key-there .till) in

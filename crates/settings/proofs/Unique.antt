@@ -1,6 +1,6 @@
 -- What the answers of `settings` say determines them; so each promise allows one answer, and one output.
 -- Assumes nothing.
-use mathlib.Core.Path.{_≡_, refl, sym, _∙_}
+use mathlib.Core.Path.{_≡_, refl}
 use mathlib.Core.List.{List}
 use Prim.Native.Nat.{ℕ}
 use Rattle.layout.specs.Answer.{Answer, got, refused}
@@ -8,14 +8,11 @@ use Rattle.layout.specs.Written.{Wrote, saysWritten}
 use Rattle.layout.specs.declared.Written.{Written}
 use Rattle.layout.proofs.laws.Determined.{Tells, retracts, reads-one, one-written}
 use Rattle.settings.specs.Entry.{entryAt, saysEntry}
-use Rattle.settings.specs.Row.{rowOf, saysChecked, foundIn}
 use Rattle.settings.specs.Store.{storeSaid, settingsOf, settingOf}
 use Rattle.settings.specs.declared.entry.Edition.{Edition}
 use Rattle.settings.specs.declared.entry.Entry.{Entry}
 use Rattle.settings.specs.declared.entry.ReadEntry.{ReadEntry}
 use Rattle.settings.specs.declared.entry.ReadEntry.the-variants as readEntry
-use Rattle.settings.specs.declared.row.Checked.{Checked}
-use Rattle.settings.specs.declared.row.Found.{Found}
 
 abbrev entry-from : Answer Entry → ReadEntry
 entry-from (got x n) = readEntry.Got x (record { at = n })
@@ -31,12 +28,6 @@ tells-entry = retracts entry-from entry-back
 module _ (e : Edition) (s : List ℕ) where
   pub one-entry : (at : ℕ) (x y : ReadEntry) → saysEntry x ≡ entryAt e s at → saysEntry y ≡ entryAt e s at → x ≡ y
   one-entry at = reads-one tells-entry (entryAt e s at)
-
-  pub one-checked : (x y : Checked) → x ≡ saysChecked (rowOf e s) → y ≡ saysChecked (rowOf e s) → x ≡ y
-  one-checked x y p q = p ∙ sym q
-
-  pub one-found : (vendor property : ℕ) (serial : List ℕ) (x y : Found) → x ≡ foundIn e vendor property serial s → y ≡ foundIn e vendor property serial s → x ≡ y
-  one-found vendor property serial x y p q = p ∙ sym q
 
   pub one-stored : (w old new new′ : List ℕ) (x y : Written) → Wrote (storeSaid (settingsOf e s) (settingOf e w)) old (saysWritten x) new
       → Wrote (storeSaid (settingsOf e s) (settingOf e w)) old (saysWritten y) new′ → (x ≡ y) × (new ≡ new′)

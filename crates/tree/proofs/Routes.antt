@@ -42,7 +42,7 @@ module _ (es ns : List ℕ) (k from : ℕ) (start : from ≡ startOf es k) where
   pub name-none : (t : Told) → refused t ≡ means length (utf8At (take (endOf es k - from) (drop from ns)) 0) → 0 ≡ length (nameOf es ns k)
   name-none t e = ap (λ a. length (spelling a)) (sym (unmeasured _ t e)) ∙ ap length name-is
 
-pub name-few : (es ns : List ℕ) → Bytes ns → (k : ℕ) → length (nameOf es ns k) ≤ 1016
+name-few : (es ns : List ℕ) → Bytes ns → (k : ℕ) → length (nameOf es ns k) ≤ 1016
 unfolding nameOf
 name-few es ns h k = utf8-short (nameBytes es ns k) (Bytes-take (endOf es k - startOf es k) (drop (startOf es k) ns) (Bytes-drop (startOf es k) ns h)) 0
 

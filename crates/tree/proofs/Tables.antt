@@ -46,7 +46,7 @@ all (p ∷ ps) i e (suc k) h l =
     let r = all ps (suc i) (and-eq-true-iff (kept i p) (keptFrom (suc i) ps) .0 e .1) k (omega arith) (omega arith) in
     omega arith
 
-pub ruled : (ps : List ℕ) → parentsOk ps ≡ true → Ruled ps
+ruled : (ps : List ℕ) → parentsOk ps ≡ true → Ruled ps
 ruled ps e =
     let a = and-eq-true-iff (ltb 0 (length ps) && leb (length ps) 1024) (keptFrom 0 ps) .0 e in
     let b = and-eq-true-iff (ltb 0 (length ps)) (leb (length ps) 1024) .0 (a .0) in

@@ -31,7 +31,7 @@ use Rattle.wire.proofs.RowWords.{types-one}
 -- ── what was measured of values, as places ──
 
 -- a row of one type is that many values of it
-pub row-repeat : (n t : ℕ) → row (replicate n t) ≡ repeated n (value t)
+row-repeat : (n t : ℕ) → row (replicate n t) ≡ repeated n (value t)
 row-repeat zero t = refl
 row-repeat (suc n) t = ap (λ (X : Codec (List Val)). through (λ x. x .0 ∷ x .1) (value t and λ _. X) (λ xs. cons-write ((value t) .write) (λ ys. X .write ys) xs)) (row-repeat n t)
 

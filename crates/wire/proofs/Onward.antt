@@ -37,7 +37,7 @@ module _ {A A′ B B′ : Type 0} {f : A → A′} {g : B → B′} {s s′ : Li
   on-after k k′ (on a n e) h = h a n e
   on-after k k′ (stopped t) h = stopped t
 
-pub on-means : {A B : Type 0} {s s′ : List ℕ} {x x′ : Answer A} (m : A → B) → On (λ a. a) s s′ x x′ → On (λ b. b) s s′ (means m x) (means m x′)
+on-means : {A B : Type 0} {s s′ : List ℕ} {x x′ : Answer A} (m : A → B) → On (λ a. a) s s′ x x′ → On (λ b. b) s s′ (means m x) (means m x′)
 unfolding means
 on-means m (on a n e) = on (m a) n e
 on-means m (stopped t) = stopped t

@@ -90,7 +90,7 @@ module _ (ks s : List ℕ) (i at c : ℕ) (h : i < length ks) (is : c ≡ getD k
   row-bad t e = row-cons ∙ rw (unmeasured (valueWord c s at) t e)
 
   -- a value that was read
-  pub row-more : (t n : ℕ) → got t n ≡ means length (valueWord c s at)
+  row-more : (t n : ℕ) → got t n ≡ means length (valueWord c s at)
       → rowWord (drop i ks) s at ≡ means (λ cs. spelling (valueWord c s at) ++ cs) (rowWord (drop (i + 1) ks) s n)
   unfolding after
   row-more t n e = row-cons ∙ ap (λ (x : Answer (List ℕ)). after x (λ bs p. means (λ cs. bs ++ cs) (rowWord (drop (i + 1) ks) s p))) (measured (valueWord c s at) t n e .0)

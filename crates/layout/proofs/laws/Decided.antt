@@ -1,33 +1,25 @@
 -- A format with faults meets the demand on refusals; what that determines; and what the grammar alone forces.
 -- Assumes nothing.
 use mathlib.Core.Path.{_≡_, refl, ap, sym, _∙_}
-use mathlib.Core.Logic.{_↔_, _⊎_, inl, inr}
+use mathlib.Core.Logic.{_⊎_, inl, inr}
 use mathlib.Core.List.{List, _++_}
 use Prim.Native.Nat.{ℕ, _+_}
 use native.Mathlib.Omega.{arith}
-use lib.ListN.{length, drop, length-append, length-drop}
-use lib.Seq.{take-append-le}
+use lib.ListN.{length, drop, length-drop}
 use Rattle.layout.specs.Answer.{Told, Answer, got, refused, Reader, means, endAt, badText}
 use Rattle.layout.specs.Bytes.{Bytes}
 use Rattle.layout.specs.Codec.{Codec}
 use Rattle.layout.specs.Faithful.{Faithful}
-use Rattle.layout.specs.Fault.{Fault, Clean, Begins, Spoilt, Ends, BadText, Refuses, Stays, same, more, Settled, good, bad, Final, Decides, Alike, both-read, both-end, both-text, Blames, fine, fault, cut, Faulted}
+use Rattle.layout.specs.Fault.{Fault, Begins, Spoilt, Ends, BadText, Refuses, Stays, same, more, Settled, good, bad, Final, Decides, Alike, both-read, both-end, both-text, Blames, fine, fault, cut, Faulted}
 use Rattle.layout.specs.Format.{Stands, Sound, word, none, Format}
 use Rattle.layout.specs.Grammar.{Grammar}
 use Rattle.layout.specs.Placed.{Placed}
 use Rattle.layout.specs.Refusals.{END, TEXT}
-use Rattle.layout.proofs.laws.Final.{end-not-text, stays-got, stays-text, Bytes-append}
+use Rattle.layout.proofs.laws.Final.{end-not-text, stays-text, Bytes-append}
 use Rattle.layout.proofs.laws.Meets.{accepted}
-use Rattle.layout.proofs.laws.Reading.{refused-meant}
+use Rattle.layout.proofs.laws.Reading.{not-meant, refused-meant}
 use Rattle.layout.proofs.laws.Numbers.{zero-one}
 use Rattle.layout.proofs.laws.Words.{fits, part-there}
-
--- a prefix of s is one of s with more after it
-pub begins-on : {R : Type 0} {G : Grammar R} (s t : List ℕ) → Begins G s → Begins G (s ++ t)
-begins-on s t (r, (n, p)) = (r, (n, record { within = omega (arith, p .within, length-append s t); reads = rw (take-append-le n s t (p .within)) (p .reads) }))
-
-pub spoilt-on : {B : Fault} (s t : List ℕ) → Spoilt B s → Spoilt B (s ++ t)
-spoilt-on s t p = record { size = p .size; within = omega (arith, p .within, length-append s t); fault = rw (take-append-le (p .size) s t (p .within)) (p .fault) }
 
 module _ {R : Type 0} {G : Grammar R} {B : Fault} {F : Codec R} (f : Format G F) (b : Faulted B F) where
   -- ── which refusal is given ──
@@ -93,14 +85,10 @@ module _ {R : Type 0} {G : Grammar R} {B : Fault} {F : Codec R} (f : Format G F)
 
   -- ── of an answer that means the reader's ──
 
-  means-so : {L : Type 0} (mean : L → R) (x : Answer L) (t : Told) → x ≡ refused t → means mean x ≡ refused t
-  unfolding means
-  means-so mean x t e = rw e
-
-  pub refuses-as : {L : Type 0} (mean : L → R) (s : List ℕ) → Bytes s → (at : ℕ) (x : Answer L) → means mean x ≡ F .read s at → Refuses G B (drop at s) x
+  refuses-as : {L : Type 0} (mean : L → R) (s : List ℕ) → Bytes s → (at : ℕ) (x : Answer L) → means mean x ≡ F .read s at → Refuses G B (drop at s) x
   refuses-as mean s h at x agrees =
       let r = refuses s h at in
-      let to : (t : Told) → x ≡ refused t → F .read s at ≡ refused t = λ t e. sym agrees ∙ means-so mean x t e in
+      let to : (t : Told) → x ≡ refused t → F .read s at ≡ refused t = λ t e. sym (not-meant mean (sym e) ∙ agrees) in
       let back : (t : Told) → F .read s at ≡ refused t → x ≡ refused t = λ t e. refused-meant mean x (agrees ∙ e) in
       record {
         text = (λ e. r .text .0 (e .0, to _ (e .1)), λ p. let o = r .text .1 p in (o .0, back _ (o .1)));
@@ -129,46 +117,6 @@ end-or-text {R} {F} {mean} b p s at t e =
     go same good e = zero-one (cc)
     go same (bad q) e = inr (let is : t ≡ badText q = cc in ap (λ (u : Told). u .no) is)
     go (more q) settled e = inl (let is : t ≡ endAt q = cc in ap (λ (u : Told). u .no) is)
-
--- of a reader of places too: by its meaning the same answer, unless it was END
-pub stays-exactly : {R L : Type 0} {read : Reader R} {mean : List ℕ → L → R} {parts : L → List (ℕ × ℕ)} {place : Reader L} → Final read → Placed mean parts place read
-    → (s t : List ℕ) (at : ℕ) → Stays (means (mean s) (place s at)) (means (mean (s ++ t)) (place (s ++ t) at))
-stays-exactly final P s t at = rw (P .agrees s at, P .agrees (s ++ t) at) (final s t at)
-
--- ── final and open, case by case ──
-
-module _ {R : Type 0} {G : Grammar R} {B : Fault} {F : Codec R} (d : Decides G B F) where
-  pub read-kept : (s t : List ℕ) (at : ℕ) (r : R) (n : ℕ) → F .read s at ≡ got r n → F .read (s ++ t) at ≡ got r n
-  read-kept s t at r n e = stays-got (d .final s t at) e
-
-  pub text-kept : (s t : List ℕ) (at p : ℕ) → F .read s at ≡ refused (badText p) → F .read (s ++ t) at ≡ refused (badText p)
-  text-kept s t at p e = stays-text p (d .final s t at) e
-
-  pub end-left : (s : List ℕ) (at : ℕ) → Ends (F .read s at) → (t : List ℕ) × (Bytes t × (Ends (F .read (s ++ t) at) → ⊥))
-  end-left s at e = let o = d .opens s at in (o .0, (o .1 .0, settled-not-end (o .1 .1)))
-    where
-      settled-not-end : {x : Answer R} → Settled x → Ends x → ⊥
-      settled-not-end good (p, e) = zero-one (cc)
-      settled-not-end (bad q) (p, e) = end-not-text p q (cc)
-
--- ── without a test there is no fault: END alone is given, exactly where the bytes begin with no word; and some bytes that follow make one ──
-
-module _ {R : Type 0} {G : Grammar R} {F : Codec R} (d : Decides G Clean F) where
-  not-spoilt : (s : List ℕ) → Spoilt Clean s → ⊥
-  not-spoilt s p = elim (p .fault) [ ]
-
-  pub never-text : (s : List ℕ) → Bytes s → BadText (F .read s 0) → ⊥
-  never-text s h e = not-spoilt s ((d .refuses s h) .text .0 e)
-
-  pub ends-alone : (s : List ℕ) → Bytes s → Ends (F .read s 0) ↔ (Begins G s → ⊥)
-  ends-alone s h = (λ e. ((d .refuses s h) .ends .0 e) .0, λ not-yet. (d .refuses s h) .ends .1 (not-yet, not-spoilt s))
-
-  pub always-alive : (s : List ℕ) → Bytes s → (t : List ℕ) × (Bytes t × Begins G (s ++ t))
-  always-alive s h = let o = d .carried s h in (o .0, (o .1 .0, go (s ++ o .0) (o .1 .1)))
-    where
-      go : (l : List ℕ) → Begins G l ⊎ Spoilt Clean l → Begins G l
-      go l (inl g) = g
-      go l (inr p) = elim (p .fault) [ ]
 
 -- ── words and faults determine the answer ──
 

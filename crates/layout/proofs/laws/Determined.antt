@@ -20,7 +20,7 @@ retracts back h x y e = sym (h x) ∙ ap back e ∙ h y
 pub reads-one : {R A : Type 0} {says : R → A} → Tells says → (what : A) (x y : R) → says x ≡ what → says y ≡ what → x ≡ y
 reads-one tells what x y h k = tells x y (h ∙ sym k)
 
-pub writes-one : {R : Type 0} {says : R → Answer (Unit {0})} → Tells says → (s : Said) (old new new′ : List ℕ) (x y : R)
+writes-one : {R : Type 0} {says : R → Answer (Unit {0})} → Tells says → (s : Said) (old new new′ : List ℕ) (x y : R)
     → Wrote s old (says x) new → Wrote s old (says y) new′ → (x ≡ y) × (new ≡ new′)
 writes-one tells s old new new′ x y p q = (tells x y (p .answers ∙ sym (q .answers)), p .leaves ∙ sym (q .leaves))
 

@@ -1,6 +1,6 @@
 -- Each way to make a codec keeps what bytes that follow can do to an answer, and what a refusal is of.
 -- Assumes nothing.
-use mathlib.Core.Path.{_≡_, refl, ap, _∙_, subst}
+use mathlib.Core.Path.{_≡_, refl, ap, subst}
 use mathlib.Core.Bool.{Bool, true, false, not}
 use mathlib.Core.List.{List, [], _∷_, _++_, append-assoc}
 use Prim.Native.Nat.{ℕ, zero, suc, _+_, _*_, _-_, _≤_}
@@ -16,7 +16,7 @@ use Rattle.layout.specs.Format.{Stands, Sound, word, none, Format}
 use Rattle.layout.specs.Grammar.{loose, Grammar, Number}
 use Rattle.layout.proofs.laws.Make.{Spanned, there, short, spanned, span-there, number-format}
 use Rattle.layout.proofs.laws.Numbers.{zero-one}
-use Rattle.layout.proofs.laws.Words.{fits, join, split}
+use Rattle.layout.proofs.laws.Words.{join, split}
 
 pub end-not-text : (p q : ℕ) → endAt p ≡ badText q → ⊥
 unfolding endAt badText
@@ -37,9 +37,6 @@ part-stays zero s t at h = refl
 part-stays (suc k) s t at h =
     rw (drop-append-le at s t (omega arith)) (take-append-le (suc k) (drop at s) t (omega (arith, length-drop at s)))
 
-pub stands-on : {s w : List ℕ} {at n : ℕ} (t : List ℕ) → Stands s at n w → Stands (s ++ t) at n w
-stands-on {s} {w} {at} t st = record { is = part-stays (length w) s t at (fits st) ∙ st .is; till = st .till }
-
 -- ── answers that stay, from one to the next ──
 
 pub stays-after : {A B : Type 0} {x y : Answer A} (k l : A → ℕ → Answer B) → Stays x y → ((a : A) (n : ℕ) → Stays (k a n) (l a n)) → Stays (after x k) (after y l)
@@ -51,17 +48,17 @@ stays-after {A} {x} k l same f = go x
     go (refused t) = same
 stays-after k l (more p) f = more p
 
-pub stays-means : {A B : Type 0} {x y : Answer A} (f : A → B) → Stays x y → Stays (means f x) (means f y)
+stays-means : {A B : Type 0} {x y : Answer A} (f : A → B) → Stays x y → Stays (means f x) (means f y)
 unfolding means
 stays-means f same = same
 stays-means f (more p) = more p
 
-pub stays-located : {A : Type 0} {x y : Answer A} (place : ℕ) → Stays x y → Stays (located place x) (located place y)
+stays-located : {A : Type 0} {x y : Answer A} (place : ℕ) → Stays x y → Stays (located place x) (located place y)
 unfolding located
 stays-located place same = same
 stays-located place (more p) = rw (end-of-field place p) (more place)
 
-pub stays-got : {A : Type 0} {x y : Answer A} {a : A} {n : ℕ} → Stays x y → x ≡ got a n → y ≡ got a n
+stays-got : {A : Type 0} {x y : Answer A} {a : A} {n : ℕ} → Stays x y → x ≡ got a n → y ≡ got a n
 stays-got same e = e
 stays-got (more p) e = zero-one (cc)
 
@@ -71,18 +68,18 @@ stays-text p (more q) e = absurd (end-not-text q p (cc))
 
 -- ── answers that are settled ──
 
-pub settled-means : {A B : Type 0} {x : Answer A} (f : A → B) → Settled x → Settled (means f x)
+settled-means : {A B : Type 0} {x : Answer A} (f : A → B) → Settled x → Settled (means f x)
 unfolding means
 settled-means f good = good
 settled-means f (bad p) = bad p
 
-pub settled-located : {A : Type 0} {x : Answer A} (place : ℕ) → Settled x → Settled (located place x)
+settled-located : {A : Type 0} {x : Answer A} (place : ℕ) → Settled x → Settled (located place x)
 unfolding located
 settled-located place good = good
 settled-located place (bad p) = rw (text-of-field place p) (bad place)
 
 -- one reader after another: carried on until the first is settled, and then, where it has read, until the second is
-pub opens-after : {A B : Type 0} (f : Reader A) (k : A → Reader B) → Final f → Open f → ((a : A) → Open (k a)) → Open (λ s at. after (f s at) λ a n. k a s n)
+opens-after : {A B : Type 0} (f : Reader A) (k : A → Reader B) → Final f → Open f → ((a : A) → Open (k a)) → Open (λ s at. after (f s at) λ a n. k a s n)
 unfolding after
 opens-after {A} {B} f k final open-f open-k s at = let o = open-f s at in go (o .0) (o .1 .0) (f (s ++ o .0) at) refl (o .1 .1)
   where
@@ -147,13 +144,13 @@ module _ {R : Type 0} (k : ℕ) (mean : List ℕ → R) where
           rw (span-there at k (s ++ t) at more′, part-stays k s t at h) same
       go (refused u) (short h) = more at
 
-  pub field-opens : Open (fieldAt k mean)
+  field-opens : Open (fieldAt k mean)
   unfolding fieldAt after
   field-opens s at =
       let enough : k ≤ length (s ++ replicate (at + k) 0) - at = omega (arith, length-append s (replicate (at + k) 0), length-replicate {A = ℕ} (at + k) 0) in
       (replicate (at + k) 0, (Bytes-zeros (at + k), rw (span-there at k (s ++ replicate (at + k) 0) at enough) good))
 
-  pub field-blames : (s : List ℕ) → Bytes s → (at : ℕ) → Blames Clean s at (fieldAt k mean s at)
+  field-blames : (s : List ℕ) → Bytes s → (at : ℕ) → Blames Clean s at (fieldAt k mean s at)
   unfolding fieldAt after
   field-blames s h at = go (spanAt at k s at) (spanned at k s at)
     where

@@ -40,16 +40,16 @@ sound-sound none k = none
 -- ── nothing ──
 
 module _ {R : Type 0} (r : R) where
-  pub empty-complete : {s w : List ℕ} {at n : ℕ} {x : R} → Stands s at n w → Empty r loose w x → got r at ≡ got x n
+  empty-complete : {s w : List ℕ} {at n : ℕ} {x : R} → Stands s at n w → Empty r loose w x → got r at ≡ got x n
   empty-complete {at} st empty = ap (got r) (sym (st .till ∙ add-zero at))
 
-  pub empty-inside : {w : List ℕ} {x : R} → Empty r tidy w x → Empty r loose w x
+  empty-inside : {w : List ℕ} {x : R} → Empty r tidy w x → Empty r loose w x
   empty-inside empty = empty
 
-  pub empty-one : {w : List ℕ} {x : R} → Empty r tidy w x → w ≡ []
+  empty-one : {w : List ℕ} {x : R} → Empty r tidy w x → w ≡ []
   empty-one empty = refl
 
-  pub empty-has : {w : List ℕ} {x : R} → Empty r loose w x → Empty r tidy [] x
+  empty-has : {w : List ℕ} {x : R} → Empty r loose w x → Empty r tidy [] x
   empty-has empty = empty
 
   pub nothing-format : Format (Empty r) (nothing r)
@@ -79,7 +79,7 @@ spanned field n s at = go (leb n (length s - at)) refl
     go false e = short (leb-false _ _ e)
 
 module _ {R : Type 0} (G : Grammar R) (k : ℕ) (mean : List ℕ → R) where
-  pub field-sound : ((w : List ℕ) → Bytes w → length w ≡ k → G loose w (mean w)) → (s : List ℕ) → Bytes s → (at : ℕ) → Sound G s at (fieldAt k mean s at)
+  field-sound : ((w : List ℕ) → Bytes w → length w ≡ k → G loose w (mean w)) → (s : List ℕ) → Bytes s → (at : ℕ) → Sound G s at (fieldAt k mean s at)
   unfolding fieldAt after
   field-sound all s h at = go (spanAt at k s at) (spanned at k s at)
     where
@@ -99,7 +99,7 @@ module _ {R : Type 0} (G : Grammar R) (k : ℕ) (mean : List ℕ → R) where
       rw (span-there at k s at there, same, e .1, st .till, e .0)
 
 module _ (k : ℕ) where
-  pub num-all : (w : List ℕ) → Bytes w → length w ≡ k → Number k loose w (number w)
+  num-all : (w : List ℕ) → Bytes w → length w ≡ k → Number k loose w (number w)
   num-all w h e =
       let lt : number w < 256 ^ k = rw e at (number-lt w h) in
       let is : bytes k (number w) ≡ w = rw e at (bytes-number w h) in
@@ -108,13 +108,13 @@ module _ (k : ℕ) where
   pub num-size : (w : List ℕ) (n : ℕ) → Number k loose w n → (length w ≡ k) × (number w ≡ n)
   num-size w n (num h) = (length-bytes k n, number-bytes k n h)
 
-  pub num-inside : {w : List ℕ} {n : ℕ} → Number k tidy w n → Number k loose w n
+  num-inside : {w : List ℕ} {n : ℕ} → Number k tidy w n → Number k loose w n
   num-inside (num h) = num h
 
-  pub num-one : {w : List ℕ} {n : ℕ} → Number k tidy w n → w ≡ bytes k n
+  num-one : {w : List ℕ} {n : ℕ} → Number k tidy w n → w ≡ bytes k n
   num-one (num h) = refl
 
-  pub num-has : {w : List ℕ} {n : ℕ} → Number k loose w n → Number k tidy (bytes k n) n
+  num-has : {w : List ℕ} {n : ℕ} → Number k loose w n → Number k tidy (bytes k n) n
   num-has (num h) = num h
 
   pub number-format : Format (Number k) (numbered k)

@@ -37,7 +37,7 @@ module _ {R : Type 0} {G : Grammar R} {F : Codec R} (f : Format G F) where
       let l : n ≡ length w = st .till ∙ omega arith in
       record { within = omega (arith, fits st); reads = rw (l, st .is) g }
 
-  pub unique-prefix : (s : List ℕ) (r r′ : R) (n n′ : ℕ) → Prefix G s r n → Prefix G s r′ n′ → (n ≡ n′) × (r ≡ r′)
+  unique-prefix : (s : List ℕ) (r r′ : R) (n n′ : ℕ) → Prefix G s r n → Prefix G s r′ n′ → (n ≡ n′) × (r ≡ r′)
   unique-prefix s r r′ n n′ p p′ =
       let a : F .read s 0 ≡ got r n = answered s r n p in
       let b : F .read s 0 ≡ got r′ n′ = answered s r′ n′ p′ in

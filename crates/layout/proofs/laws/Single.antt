@@ -27,13 +27,13 @@ single-empty r w x empty = empty
 pub single-number : (k : ℕ) → Single (Number k)
 single-number k w x (num h) = num h
 
-pub single-then : {A B : Type 0} {G : Grammar A} {H : A → Grammar B} → Single G → ((a : A) → Single (H a)) → Single (G then H)
+single-then : {A B : Type 0} {G : Grammar A} {H : A → Grammar B} → Single G → ((a : A) → Single (H a)) → Single (G then H)
 single-then f g w x (both {u} {v} {a} {b} p q) = both (f u a p) (g a v b q)
 
 pub single-as : {A B : Type 0} {G : Grammar A} (f : A → B) → Single G → Single (As f G)
 single-as f g w x (as′ {a} p) = as′ (g w a p)
 
-pub single-lead : {A R : Type 0} {G : Grammar A} {H : A → Grammar R} (c : R → A) → ((a : A) (w : List ℕ) (r : R) → H a loose w r → a ≡ c r) → Single G → ((a : A) → Single (H a)) → Single (Lead G c H)
+single-lead : {A R : Type 0} {G : Grammar A} {H : A → Grammar R} (c : R → A) → ((a : A) (w : List ℕ) (r : R) → H a loose w r → a ≡ c r) → Single G → ((a : A) → Single (H a)) → Single (Lead G c H)
 single-lead c e f g w x (lead {u} {v} {a} p q r) = lead (f u a p) (e a v x r) (g a v x r)
 
 pub single-repeat : {R : Type 0} (G : Grammar R) (n : ℕ) → Single G → Single (Repeat n G)

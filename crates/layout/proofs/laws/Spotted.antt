@@ -19,6 +19,7 @@ use Rattle.layout.specs.Spot.{Spot, Nowhere, Here, here, Past, early, la
 use Rattle.layout.proofs.laws.Decided.{refuses}
 use Rattle.layout.proofs.laws.Final.{end-not-text}
 use Rattle.layout.proofs.laws.Make.{Spanned, there, short, spanned, number-format}
+use Rattle.layout.proofs.laws.Reading.{not-meant, refused-meant}
 use Rattle.layout.proofs.laws.Numbers.{zero-one}
 use Rattle.layout.proofs.laws.Words.{fits, front, part-there, rest-of}
 
@@ -181,15 +182,6 @@ text-of : {R : Type 0} {p : ℕ} {x : Answer R} → Of p x → BadText x → x �
 text-of {p} of-end (q, e) = absurd (end-not-text p q (cc))
 text-of of-text e = refl
 
-refused-so : {R L : Type 0} (mean : L → R) (x : Answer L) (t : Told) → means mean x ≡ refused t → x ≡ refused t
-unfolding means
-refused-so mean (got l n) t e = zero-one (cc)
-refused-so mean (refused u) t e = cc
-
-means-so : {R L : Type 0} (mean : L → R) (x : Answer L) (t : Told) → x ≡ refused t → means mean x ≡ refused t
-unfolding means
-means-so mean x t e = rw e
-
 module _ {R : Type 0} {G : Grammar R} {B : Fault} {P : Spot} {F : Codec R} (f : Format G F) (b : Faulted B F) (p : Spotted P F) where
   pub points : (s : List ℕ) → Bytes s → (at : ℕ) → Points B P (drop at s) at (F .read s at)
   points s h at = record {
@@ -205,9 +197,9 @@ module _ {R : Type 0} {G : Grammar R} {B : Fault} {P : Spot} {F : Codec R} (f : 
       let o = points s h at in
       let agrees : means (mean s) x ≡ F .read s at = ap (means (mean s)) promised ∙ Q .agrees s at in
       record {
-        some = λ t e. o .some t (sym agrees ∙ means-so (mean s) x t e);
-        end-there = λ q i not-spoilt. refused-so (mean s) x _ (agrees ∙ o .end-there q i not-spoilt);
-        text-there = λ q i spoilt. refused-so (mean s) x _ (agrees ∙ o .text-there q i spoilt);
+        some = λ t e. o .some t (sym (not-meant (mean s) (sym e) ∙ agrees));
+        end-there = λ q i not-spoilt. refused-meant (mean s) x (agrees ∙ o .end-there q i not-spoilt);
+        text-there = λ q i spoilt. refused-meant (mean s) x (agrees ∙ o .text-there q i spoilt);
       }
 
 -- ── words, faults and spots determine the whole answer, with the place of a refusal ──

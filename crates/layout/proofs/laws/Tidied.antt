@@ -76,7 +76,7 @@ as-shrinks {A} {B} {G} {F} f out k e = record { small = go }
     go : (w : List ℕ) (x : B) → As f G loose w x → length (out x) ≤ length w
     go w x (as′ {a} g) = omega (arith, ap length (e a), k .small w a g)
 
-pub repeat-shrinks : {R : Type 0} {G : Grammar R} {F : Codec R} (n : ℕ) → Shrinks G F → Shrinks (Repeat n G) (repeated n F)
+repeat-shrinks : {R : Type 0} {G : Grammar R} {F : Codec R} (n : ℕ) → Shrinks G F → Shrinks (Repeat n G) (repeated n F)
 repeat-shrinks zero k = nothing-shrinks []
 repeat-shrinks (suc n) k = as-shrinks _ _ (then-shrinks k λ _. repeat-shrinks n k) λ a. refl
 

@@ -33,7 +33,7 @@ unfolding entryOf
 in-table base first names {code = code} h k r = rw (le-leb base code h, lt-ltb (code - base) (length names) k, r .start, r .len)
 
 -- an entry is one of the table's
-pub entered : (base n code : ℕ) → (P : Option ℕ → Type 0) → P none → ((k : ℕ) → k < n → P (some k)) → P (entryOf base n code)
+entered : (base n code : ℕ) → (P : Option ℕ → Type 0) → P none → ((k : ℕ) → k < n → P (some k)) → P (entryOf base n code)
 unfolding entryOf
 entered base n code P o f = outer (leb base code)
   where

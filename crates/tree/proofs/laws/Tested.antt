@@ -24,7 +24,7 @@ leftTest [] (b ∷ t) = true
 leftTest (a ∷ s) [] = false
 leftTest (a ∷ s) (b ∷ t) = pick (eqb a b) (leftTest s t) (ltb a b)
 
-pub left-tested : (s t : List ℕ) → leftTest s t ≡ true → Left s t
+left-tested : (s t : List ℕ) → leftTest s t ≡ true → Left s t
 left-tested [] [] e = false-no e
 left-tested [] (b ∷ t) e = stops
 left-tested (a ∷ s) [] e = false-no e

@@ -71,7 +71,7 @@ module _ (t : Table) (l m : List ℕ) (room : ℕ)
   unfolding endsSaid
   same-ends = alike (λ k. endsSaid t k room) (λ why e k. rw e)
 
-  pub same-walk : saidIf (tableAt t) (says l) ≡ saidIf (tableAt t) (says m)
+  same-walk : saidIf (tableAt t) (says l) ≡ saidIf (tableAt t) (says m)
   same-walk = alike (λ k. saidIf (tableAt t) (says k)) (λ why e k. rw e)
 
 pub one-walked : (t : Table) (old new new′ : List ℕ) (x y : Written) → Walked t old (saysWritten x) new → Walked t old (saysWritten y) new′ → (x ≡ y) × (new ≡ new′)

@@ -81,7 +81,7 @@ said-command c number h = rw (le-leb (c .count) 5 h)
 
 -- ── where an accepted container stands ──
 
-pub record Headed (s : List ℕ) (at n : ℕ) : Type 0 where
+record Headed (s : List ℕ) (at n : ℕ) : Type 0 where
   pub till : n ≡ at + 12
   pub within : n ≤ length s
 
@@ -91,7 +91,7 @@ pub record Boxed (s : List ℕ) (at : ℕ) (x : Container) (n : ℕ) : Type 0 wh
   pub within : n ≤ length s
 
 module _ (s : List ℕ) (at : ℕ) where
-  pub header-stands : Accepts (λ h n. Headed s at n) (headerAt s at)
+  header-stands : Accepts (λ h n. Headed s at n) (headerAt s at)
   unfolding headerAt headerRest
   header-stands =
       accepts-after _ _ (numAt 4 s at) _ (accepts-field 4 number s at) λ len a p.
@@ -123,7 +123,7 @@ accepts-small w s h at = go (spanAt at w s at) (spanned at w s at)
     go (refused t) (short k) = tt
 
 module _ (s : List ℕ) (h : Bytes s) (at : ℕ) where
-  pub header-small : Accepts (λ x n. x .number < 256 ^ 4) (headerAt s at)
+  header-small : Accepts (λ x n. x .number < 256 ^ 4) (headerAt s at)
   unfolding headerAt headerRest
   header-small =
       accepts-after _ _ (numAt 4 s at) _ (accepts-small 4 s h at) λ len a p.

@@ -30,7 +30,7 @@ unsigned-signed full n h = go (ltb (n + n) full)
     go true = refl
     go false = omega arith
 
-pub number-back : (k : Kind) (w : List ℕ) (n : ℕ) → Number (width k) loose w n → number-of k (meaning k n) ≡ n
+number-back : (k : Kind) (w : List ℕ) (n : ℕ) → Number (width k) loose w n → number-of k (meaning k n) ≡ n
 number-back (sint k) w n (num h) = unsigned-signed (256 ^ k) n h
 number-back (uint k) w n (num h) = refl
 number-back wide w n (num h) = omega arith

@@ -67,7 +67,7 @@ split-at t s h (suc k) (suc n) lt at w vs m r =
     (i .0, i .1, front ∙ ap (λ xs. got (take (suc k) xs) (i .0)) (sym (p .5)), i .3 ∙ ap (λ xs. got (getD xs (suc k) nil) (i .1)) (sym (p .5)), i .4)
 
 -- the k-th of n values
-pub nth-read : (t : ℕ) (s : List ℕ) → Bytes s → (k n at : ℕ) → k < n → at ≤ length s → (vs : List Val) (m : ℕ) → (repeated n (value t)) .read s at ≡ got vs m
+nth-read : (t : ℕ) (s : List ℕ) → Bytes s → (k n at : ℕ) → k < n → at ≤ length s → (vs : List Val) (m : ℕ) → (repeated n (value t)) .read s at ≡ got vs m
     → (l : Located) × (p : Slot) × (e : ℕ) × (nthValue t k s at ≡ got (l, p) e) × Nth t s (between at m) vs k l p e
 unfolding nthValue valuesAt valueSlot after
 nth-read t s h k n at lt w vs m r =
@@ -93,7 +93,7 @@ nth-read t s h k n at lt w vs m r =
 
 -- steps over n values
 module _ (t : ℕ) (s : List ℕ) (h : Bytes s) where
-  pub steps-read : (n : ℕ) (l : Values) → now (l .src) ≡ s → l .ty ≡ t → l .left ≡ n → l .refusal ≡ 0 → l .at ≤ length s → (vs : List Val) (m : ℕ) → (repeated n (value t)) .read s (l .at) ≡ got vs m → Yields t s l vs
+  steps-read : (n : ℕ) (l : Values) → now (l .src) ≡ s → l .ty ≡ t → l .left ≡ n → l .refusal ≡ 0 → l .at ≤ length s → (vs : List Val) (m : ℕ) → (repeated n (value t)) .read s (l .at) ≡ got vs m → Yields t s l vs
   unfolding stepAt
   steps-read zero l of ty left fine w vs m r = let f : [] ≡ vs = cc in rw (← f) (ended {l = l} λ a promised. promised ∙ rw (left, fine))
   steps-read (suc n) l of ty left fine w vs m r =

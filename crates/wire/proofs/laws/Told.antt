@@ -102,7 +102,7 @@ module _ {P : ℕ → Type 0} (s : List ℕ) (closed : Closed P s) where
   enable-telling true at h = telling-after (telling-field s closed 1 number at h) λ n next i. read i
   enable-telling false at h = read h
 
-  pub property-telling : (there : Bool) (at : ℕ) → P at → Telling P (propertyAt there s at)
+  property-telling : (there : Bool) (at : ℕ) → P at → Telling P (propertyAt there s at)
   unfolding propertyAt
   property-telling there at h =
       telling-after (telling-field s closed 2 number at h) λ code a i.
@@ -115,7 +115,7 @@ module _ {P : ℕ → Type 0} (s : List ℕ) (closed : Closed P s) where
 
   -- ── containers ──
 
-  pub header-telling : (at : ℕ) → P at → Telling P (headerAt s at)
+  header-telling : (at : ℕ) → P at → Telling P (headerAt s at)
   unfolding headerAt headerRest
   header-telling at h =
       telling-after (telling-field s closed 4 number at h) λ len a i.
