@@ -1,6 +1,7 @@
 -- The laws of writing.
 --     then                        a row of writes is one write
 --     start, byte, part, end      a loop that writes: `Owes` says what it still has to write, and where
+--     part-over                   one that writes farther than it goes on from, over what it still has to write
 --     refusal, no-room, done      a public writer's answers
 -- Assumes nothing.
 use mathlib.Core.Path.{_≡_, refl, sym, ap, _∙_}
@@ -13,7 +14,7 @@ use native.Mathlib.Omega.{arith}
 use borrow.Author.Tests.{le-leb, lt-leb, leb-true, leb-false}
 use lib.Dec.{leb}
 use lib.ListN.{length, take, drop, set, getD, length-set, length-append}
-use lib.Seq.{sets, length-sets, sets-eq, drop-cons, take-all, take-length, length-take-le}
+use lib.Seq.{sets, length-sets, sets-eq, set-set, set-comm, drop-cons, take-all, take-length, length-take-le}
 use Rattle.layout.specs.Answer.{Told, Answer, got, refused, bare, pick}
 use Rattle.layout.specs.Bytes.{bytes}
 use Rattle.layout.specs.Written.{Said, says, no, Wrote, answerOf, leftOf, put, Put, roomed}
@@ -28,6 +29,17 @@ put-put : (out : List ℕ) (at : ℕ) (a b : List ℕ) → put (put out at a) (a
 unfolding put
 put-put out at [] b = rw add-zero
 put-put out at (x ∷ a) b = ap (λ (k : ℕ). sets (sets (set out at x) (suc at) a) k b) (add-suc at (length a) ∙ sym (suc-add at (length a))) ∙ put-put (set out at x) (suc at) a b
+
+-- what is written over is as if it had not been written
+set-sets : (out : List ℕ) (at k b : ℕ) (bs : List ℕ) → at < k → set (sets out k bs) at b ≡ sets (set out at b) k bs
+set-sets out at k b [] h = refl
+set-sets out at k b (x ∷ bs) h = set-sets (set out k x) at (suc k) b bs (omega arith) ∙ rw (set-comm out k at x b (λ e. omega arith))
+
+put-over : (out : List ℕ) (at : ℕ) (a b : List ℕ) → length a ≤ length b → put (put out at a) at b ≡ put out at b
+unfolding put
+put-over out at [] b h = refl
+put-over out at (x ∷ a) [] h = absurd (not-suc-le-zero h)
+put-over out at (x ∷ a) (y ∷ b) h = rw (set-sets (set out at x) at (suc at) y a (omega arith), set-set) (put-over (set out at y) (suc at) a b (omega arith))
 
 pub put-front : (out bs : List ℕ) → length bs ≤ length out → put out 0 bs ≡ bs ++ drop (length bs) out
 unfolding put
@@ -98,6 +110,15 @@ part {out} {rest} {bs} {out₀} {all} {out′} {c} {o} {o′} {at} e w p = recor
   bytes = rw (p .bytes, p .place, put-put) (ap (put out o) (sym e) ∙ w .bytes);
   place = omega (arith, w .place, p .place, ap length e, length-append c bs);
   long = ap length (p .bytes) ∙ length-put out o c ∙ w .long;
+}
+
+-- a part is written, and more behind it, which no longer is than what is left
+pub part-over : {out rest bs out₀ all out′ : List ℕ} {o at : ℕ} (c more : List ℕ) → rest ≡ c ++ bs → Owes out o rest out₀ at all → out′ ≡ put out o (c ++ more) → length more ≤ length bs
+    → Owes out′ (o + length c) bs out₀ at all
+part-over {out} {rest} {bs} {out₀} {all} {out′} {o} {at} c more e w p h = record {
+  bytes = rw (p, ← put-put out o c more, put-over (put out o c) (o + length c) more bs h, put-put) (ap (put out o) (sym e) ∙ w .bytes);
+  place = omega (arith, w .place, ap length e, length-append c bs);
+  long = ap length p ∙ length-put out o (c ++ more) ∙ w .long;
 }
 
 pub end : {out rest out₀ all : List ℕ} {o at : ℕ} → rest ≡ [] → Owes out o rest out₀ at all → Put out₀ at all out o

@@ -1,16 +1,14 @@
 -- Code points one at a time: what is left to write after the first is what its units leave. How long that can be. And its bytes.
 -- Assumes nothing.
-use mathlib.Core.Path.{_≡_, refl}
+use mathlib.Core.Path.{_≡_, refl, ap}
 use mathlib.Core.Bool.{Bool, true, false}
 use mathlib.Core.List.{List, [], _∷_, _++_}
-use Prim.Native.Nat.{ℕ, zero, suc, _+_, _-_, _*_, _/_, _%_, _≤_, _<_}
-use native.Mathlib.Nat.{not-suc-le-zero}
+use Prim.Native.Nat.{ℕ, suc, _+_, _-_, _*_, _/_, _%_, _≤_, _<_}
 use native.Mathlib.Numerals.{add-one}
 use native.Mathlib.Omega.{arith}
 use borrow.Author.Tests.{eq-eqb, ne-eqb, lt-ltb, le-ltb}
 use lib.Dec.{ltb}
 use lib.ListN.{length, take, drop, set, length-append}
-use lib.Seq.{drop-drop}
 use Rattle.layout.specs.Answer.{Told, Answer, got, refused, pick, means}
 use Rattle.layout.specs.Bytes.{Bytes, number, cells}
 use Rattle.layout.specs.Written.{put, Put, spelling}
@@ -20,21 +18,26 @@ use Rattle.wire.specs.Layout.{high}
 use Rattle.wire.specs.Places.{textAt, itemsIn}
 use Rattle.wire.specs.Utf8.{pairPoint, points, encoded, encodedAll, utf8, utf8At, Leads}
 use Rattle.wire.proofs.Spelled.{length-cells, text-stood}
-use Rattle.wire.proofs.Texts.{cells-none}
+use Rattle.wire.proofs.Texts.{cells-cons, cells-none}
 
 -- ── the first code point ──
 
 abbrev unit : List ℕ → ℕ → ℕ
 unit s at = number (take 2 (drop at s))
 
+-- a unit by itself, and a pair, whatever follows
+points-alone : (u : ℕ) (us : List ℕ) → (u / 1024 ≡ 54 → ⊥) → points (u ∷ us) ≡ u ∷ points us
+unfolding points
+points-alone u [] e = refl
+points-alone u (v ∷ us) e = rw (ne-eqb (u / 1024) 54 e)
+
+points-pair : (u v : ℕ) (us : List ℕ) → u / 1024 ≡ 54 → points (u ∷ v ∷ us) ≡ pairPoint u v ∷ points us
+unfolding points
+points-pair u v us e = rw (eq-eqb (u / 1024) 54 e)
+
 alone-is : (s : List ℕ) (at left : ℕ) → 0 < left → (unit s at / 1024 ≡ 54 → ⊥)
     → points (cells 2 left (drop at s)) ≡ unit s at ∷ points (cells 2 (left - 1) (drop (at + 2) s))
-unfolding points cells
-alone-is s at zero h e = absurd (not-suc-le-zero h)
-alone-is s at (suc zero) h e = refl
-alone-is s at (suc (suc m)) h e =
-    let less : suc (suc m) - 1 ≡ suc m = omega arith in
-    rw (ne-eqb (unit s at / 1024) 54 e, less, ← drop-drop 2 at s)
+alone-is s at left h e = rw (cells-cons left s at h) (points-alone (unit s at) (cells 2 (left - 1) (drop (at + 2) s)) e)
 
 last-is : (s : List ℕ) (at left : ℕ) → left ≡ 1 → points (cells 2 left (drop at s)) ≡ unit s at ∷ points (cells 2 (left - 1) (drop (at + 2) s))
 unfolding points cells
@@ -42,13 +45,10 @@ last-is s at left e = rw e
 
 pair-is : (s : List ℕ) (at left : ℕ) → 0 < left → (left ≡ 1 → ⊥) → unit s at / 1024 ≡ 54
     → points (cells 2 left (drop at s)) ≡ pairPoint (unit s at) (unit s (at + 2)) ∷ points (cells 2 (left - 2) (drop (at + 4) s))
-unfolding points cells
-pair-is s at zero h e f = absurd (not-suc-le-zero h)
-pair-is s at (suc zero) h e f = absurd (e refl)
-pair-is s at (suc (suc m)) h e f =
-    let less : suc (suc m) - 2 ≡ m = omega arith in
-    let far : at + 4 ≡ at + 2 + 2 = omega arith in
-    rw (eq-eqb (unit s at / 1024) 54 f, less, far, ← drop-drop 2 (at + 2) s, ← drop-drop 2 at s)
+pair-is s at left h e f =
+    let less : left - 1 - 1 ≡ left - 2 = omega arith in
+    let far : at + 2 + 2 ≡ at + 4 = omega arith in
+    rw (cells-cons left s at h, cells-cons (left - 1) s (at + 2) (omega arith), less, far) (points-pair (unit s at) (unit s (at + 2)) (cells 2 (left - 2) (drop (at + 4) s)) f)
 
 module _ (s : List ℕ) (at left u : ℕ) (some : 0 < left) (is : u ≡ unit s at) (small : u < 0x10000) where
   pub alone : (u / 1024 ≡ 54 → ⊥) → Leads s at left (record { value = u; units = 1 })
@@ -71,7 +71,7 @@ three-bytes c = (0xE0 + c / 4096) ∷ (0x80 + c / 64 % 64) ∷ (0x80 + c % 64) �
 abbrev four-bytes : ℕ → List ℕ
 four-bytes c = (0xF0 + c / 262144) ∷ (0x80 + c / 4096 % 64) ∷ (0x80 + c / 64 % 64) ∷ (0x80 + c % 64) ∷ []
 
-pub encoded-few : (c : ℕ) → length (encoded c) ≤ 4
+encoded-few : (c : ℕ) → length (encoded c) ≤ 4
 unfolding encoded
 encoded-few c = go (ltb c 0x80) (ltb c 0x800) (ltb c 0x10000)
   where
@@ -99,6 +99,14 @@ module _ (c : ℕ) where
   four-is g = rw (le-ltb c 0x80 (omega arith), le-ltb c 0x800 (omega arith), le-ltb c 0x10000 g)
 
 -- ── what is left to write ──
+
+pub utf8-alone : (u : ℕ) (us : List ℕ) → (u / 1024 ≡ 54 → ⊥) → utf8 (u ∷ us) ≡ encoded u ++ utf8 us
+unfolding utf8 encodedAll
+utf8-alone u us e = rw (points-alone u us e)
+
+pub utf8-pair : (u v : ℕ) (us : List ℕ) → u / 1024 ≡ 54 → utf8 (u ∷ v ∷ us) ≡ encoded (pairPoint u v) ++ utf8 us
+unfolding utf8 encodedAll
+utf8-pair u v us e = rw (points-pair u v us e)
 
 pub utf8-step : {s : List ℕ} {at left : ℕ} {r : _} → Leads s at left r
     → utf8 (cells 2 left (drop at s)) ≡ encoded (r .value) ++ utf8 (cells 2 (left - r .units) (drop (at + r .units * 2) s))
@@ -142,13 +150,34 @@ pub utf8-few : (us : List ℕ) → length (utf8 us) ≤ 4 * length us
 unfolding utf8
 utf8-few us = omega (arith, all-few (points us), points-few us)
 
+-- a byte for each unit, at the least
+encoded-some : (c : ℕ) → 0 < length (encoded c)
+unfolding encoded
+encoded-some c = go (ltb c 0x80) (ltb c 0x800) (ltb c 0x10000)
+  where
+    go : (x y z : Bool) → 0 < length (pick x (c ∷ []) (pick y (two-bytes c) (pick z (three-bytes c) (four-bytes c))))
+    go true y z = omega arith
+    go false true z = omega arith
+    go false false true = omega arith
+    go false false false = omega arith
+
+pub utf8-many : (us : List ℕ) → length us ≤ length (utf8 us)
+unfolding utf8 points encodedAll
+utf8-many [] = omega arith
+utf8-many (u ∷ []) = omega (arith, length-append (encoded u) [], encoded-some u)
+utf8-many (u ∷ v ∷ us) = go (high u) (utf8-many us) (utf8-many (v ∷ us))
+  where
+    go : (b : Bool) → length us ≤ length (utf8 us) → suc (length us) ≤ length (utf8 (v ∷ us)) → suc (suc (length us)) ≤ length (encodedAll (pick b (pairPoint u v ∷ points us) (u ∷ points (v ∷ us))))
+    go true h k = omega (arith, length-append (encoded (pairPoint u v)) (utf8 us), ap length (four-is (pairPoint u v) (omega arith)), h)
+    go false h k = omega (arith, length-append (encoded u) (utf8 (v ∷ us)), encoded-some u, k)
+
 byte-small : (s : List ℕ) → Bytes s → number (take 1 s) < 256
 unfolding number
 byte-small [] h = omega arith
 byte-small (b ∷ s) h = omega (arith, h .0)
 
 -- a string has at most 254 units, for its count is one byte
-text-few : (s : List ℕ) → Bytes s → (at : ℕ) (part : Part) (n : ℕ) → got part n ≡ textAt s at → part .count ≤ 254
+pub text-few : (s : List ℕ) → Bytes s → (at : ℕ) (part : Part) (n : ℕ) → got part n ≡ textAt s at → part .count ≤ 254
 text-few s h at part n e = omega (arith, text-stood s at part n e .few, byte-small (drop at s) (Bytes-drop at s h))
 
 pub utf8-short : (s : List ℕ) → Bytes s → (at : ℕ) → length (spelling (utf8At s at)) ≤ 1016

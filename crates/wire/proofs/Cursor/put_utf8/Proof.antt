@@ -5,11 +5,13 @@ use native.Mathlib.Omega.{arith}
 use borrow.Author.Needs.{needs}
 use borrow.Author.Tests.{leb-true, leb-false, not-true, not-false}
 use denote.Ref.{now}
+use Rattle.layout.proofs.laws.Numbers.{bytes-of}
 use Rattle.layout.proofs.laws.Reading.{heard}
 use Rattle.layout.proofs.laws.Writing.{in-room, out-of-room, nothing}
 use Rattle.wire.specs.Places.{itemsIn}
 use Rattle.wire.specs.Says.{saysPart}
 use Rattle.wire.specs.Utf8.{utf8}
+use Rattle.wire.proofs.Lengths.{text-units}
 use Rattle.wire.proofs.Spelled.{text-stood}
 use Rattle.wire.proofs.laws.Points.{utf8-got, utf8-refused}
 use Rattle.wire.proofs.Cursor.put_utf8.Statement.{statement}
@@ -18,7 +20,7 @@ use Rattle.wire.proofs.Cursor.put_utf8.Tie as tie
 has-room-requires : tie.Need-has-room-requires
 has-room-requires c κs =
     let a = c .before .before .before .before .before .before .before .args in
-    text-stood (now (a .s)) (a .self .at) _ _ (heard saysPart (c .before .before .part .given .1) (c .before .before .before .before .text .ensures)) .fits
+    text-units (now (a .s)) (bytes-of (now (a .s)) (λ i. c .before .before .before .before .before .before .shared-slice-known .given i .fits)) (a .self .at) _ _ (heard saysPart (c .before .before .part .given .1) (c .before .before .before .before .text .ensures))
 
 returns : tie.Need-returns
 returns c =

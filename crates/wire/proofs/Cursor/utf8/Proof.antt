@@ -6,11 +6,13 @@ use borrow.Author.Tests.{leb-true, leb-false, not-true, not-false}
 use denote.Ref.{now}
 use lib.ListN.{length}
 use Rattle.layout.specs.Written.{saidOf}
+use Rattle.layout.proofs.laws.Numbers.{bytes-of}
 use Rattle.layout.proofs.laws.Reading.{heard}
 use Rattle.layout.proofs.laws.Writing.{refusal, no-room, done}
 use Rattle.wire.specs.Places.{itemsIn}
 use Rattle.wire.specs.Says.{saysPart}
 use Rattle.wire.specs.Utf8.{utf8}
+use Rattle.wire.proofs.Lengths.{text-units}
 use Rattle.wire.proofs.Spelled.{text-stood}
 use Rattle.wire.proofs.laws.Points.{utf8-got, utf8-refused}
 use Rattle.wire.proofs.Cursor.utf8.Statement.{statement}
@@ -19,7 +21,7 @@ use Rattle.wire.proofs.Cursor.utf8.Tie as tie
 has-room-requires : tie.Need-has-room-requires
 has-room-requires c κs =
     let a = c .before .before .before .before .before .before .before .args in
-    text-stood (now (a .s)) (a .self .at) _ _ (heard saysPart (c .before .before .part .given .1) (c .before .before .before .before .text .ensures)) .fits
+    text-units (now (a .s)) (bytes-of (now (a .s)) (λ i. c .before .before .before .before .before .before .shared-slice-known .given i .fits)) (a .self .at) _ _ (heard saysPart (c .before .before .part .given .1) (c .before .before .before .before .text .ensures))
 
 returns : tie.Need-returns
 unfolding saidOf

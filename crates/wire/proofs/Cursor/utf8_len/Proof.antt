@@ -4,9 +4,10 @@ use Prim.Native.Nat.{ℕ}
 use borrow.Author.Needs.{needs}
 use denote.Ref.{now}
 use Rattle.layout.specs.Answer.{got, means}
+use Rattle.layout.proofs.laws.Numbers.{bytes-of}
 use Rattle.layout.proofs.laws.Reading.{heard}
 use Rattle.wire.specs.Says.{saysPart}
-use Rattle.wire.proofs.Spelled.{text-stood}
+use Rattle.wire.proofs.Lengths.{text-units}
 use Rattle.wire.proofs.laws.Points.{utf8-got, utf8-refused}
 use Rattle.wire.proofs.Cursor.utf8_len.Statement.{statement}
 use Rattle.wire.proofs.Cursor.utf8_len.Tie as tie
@@ -14,7 +15,7 @@ use Rattle.wire.proofs.Cursor.utf8_len.Tie as tie
 units-len-requires : tie.Need-units-len-requires
 units-len-requires c κs =
     let a = c .before .before .before .before .before .args in
-    text-stood (now (a .s)) (a .self .at) _ _ (heard saysPart (c .before .part .given .1) (c .before .before .before .text .ensures)) .fits
+    text-units (now (a .s)) (bytes-of (now (a .s)) (λ i. c .before .before .before .before .shared-slice-known .given i .fits)) (a .self .at) _ _ (heard saysPart (c .before .part .given .1) (c .before .before .before .text .ensures))
 
 returns : tie.Need-returns
 unfolding means

@@ -4,6 +4,7 @@ use borrow.Author.Needs.{needs}
 use borrow.Author.Tests.{ltb-true}
 use lib.ListN.{drop}
 use Rattle.layout.specs.Bytes.{cells}
+use Rattle.layout.proofs.laws.Numbers.{zero-one}
 use Rattle.wire.proofs.Small.{above-more}
 use Rattle.wire.proofs.text.is_ascii.Statement.{statement}
 use Rattle.wire.proofs.text.is_ascii.Tie as tie
@@ -13,4 +14,8 @@ is-ascii-spec =
     tie.close
     (tie.spec
     (λ c κs. search needs)
-    (λ c e. above-more (cells 2 (c .before .before .args .n) (drop (c .before .before .args .at) (c .before .before .args .s .now))) (omega (arith, ltb-true (c .largest .result) 0x80 e)) (c .largest .ensures)))
+    (λ c e. zero-one (cc))
+    (λ c κs. search needs)
+    (λ c e.
+    let a = c .before .before .before .args in
+    above-more (cells 2 (a .n) (drop (a .at) (a .s .now))) (omega (arith, ltb-true (c .largest2 .result) 0x80 e)) (c .largest2 .ensures)))

@@ -1,4 +1,4 @@
--- `wire::utf8::put_ascii`: the loop owes the units that are left, each of which is its own byte. Assumes nothing.
+-- `wire::encode::put_ascii`: the loop owes the units that are left, each of which is its own byte. Assumes nothing.
 use mathlib.Core.Path.{_≡_, refl, _∙_}
 use Prim.Native.Nat.{_≤_, _<_, _+_, _*_}
 use native.Mathlib.Omega.{arith}
@@ -9,8 +9,8 @@ use Rattle.layout.proofs.laws.Writing.{Owes, start, byte, end}
 use Rattle.wire.specs.Utf8.{NoneAbove}
 use Rattle.wire.proofs.Texts.{cells-none}
 use Rattle.wire.proofs.Small.{unit-cons, ascii-byte, ascii-rest, ascii-utf8}
-use Rattle.wire.proofs.utf8.put_ascii.Statement.{statement}
-use Rattle.wire.proofs.utf8.put_ascii.Tie as tie
+use Rattle.wire.proofs.encode.put_ascii.Statement.{statement}
+use Rattle.wire.proofs.encode.put_ascii.Tie as tie
 
 abbrev Inv-loop : tie.InvT-loop
 Inv-loop s start count out₀ o at₀ left₀ next₀ out at left next =

@@ -1,4 +1,4 @@
--- `wire::utf8::put_point`: by the tests that led there the point has one to four bytes, for which the caller has room. Assumes nothing.
+-- `wire::encode::put_point`: by the tests that led there the point has one to four bytes, for which the caller has room. Assumes nothing.
 use mathlib.Core.Path.{ap}
 use Prim.Native.Nat.{_+_, _≤_}
 use native.Mathlib.Omega.{arith}
@@ -6,8 +6,8 @@ use borrow.Author.Needs.{needs}
 use denote.Ref.{now}
 use lib.ListN.{length, length-set}
 use Rattle.wire.proofs.laws.Points.{one-is, two-is, three-is, four-is, one-put, two-put, three-put, four-put}
-use Rattle.wire.proofs.utf8.put_point.Statement.{statement}
-use Rattle.wire.proofs.utf8.put_point.Tie as tie
+use Rattle.wire.proofs.encode.put_point.Statement.{statement}
+use Rattle.wire.proofs.encode.put_point.Tie as tie
 
 one : (c : tie.Then1) → c .before .args .o + 1 ≤ length (now (c .before .args .out))
 one c = omega (arith, ap length (one-is (c .before .args .c) (c .if1 .taken)))

@@ -1,9 +1,9 @@
--- `wire::utf8::point_at`: a unit that is no high surrogate, a last one, or a pair. Assumes nothing.
+-- `wire::encode::point_at`: a unit that is no high surrogate, a last one, or a pair. Assumes nothing.
 use native.Mathlib.Omega.{arith}
 use borrow.Author.Needs.{needs}
 use Rattle.wire.proofs.laws.Points.{alone, last, pair}
-use Rattle.wire.proofs.utf8.point_at.Statement.{statement}
-use Rattle.wire.proofs.utf8.point_at.Tie as tie
+use Rattle.wire.proofs.encode.point_at.Statement.{statement}
+use Rattle.wire.proofs.encode.point_at.Tie as tie
 
 returns : tie.Need-returns
 returns c =
