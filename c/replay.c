@@ -1,5 +1,5 @@
-/* Answers questions of docs/ASK.md through ptp.h: one a line in, one a line out. Each name of a number in ptp.h is used here, so that the
- * replay of `ask` tries that it names the right one. The questions are well written; `./ptp rust` leaves the others out. */
+/* Answers questions of docs/ASK.md through ptp.h: one a line in, one a line out. Each name of an answer's number in ptp.h is used here, so that
+ * the replay of `ask` tries that it names the right one. The questions are well written; `./ptp rust` leaves the others out. */
 #include "replay_words.h"
 #include "replay_values.h"
 #include "replay_tables.h"
@@ -258,12 +258,24 @@ static void settings_store(bool edition, const char *row, const char *entry, con
     print_written(answer, second, room);
 }
 
+/* Its container's numbers are those of the container that its body is; a note has none, and they are 0. */
+static bool has_its_container(const uint8_t *s, const uint64_t *x)
+{
+    uint64_t own[PTP_CONTAINER_NUMBERS] = {0, 0, 0, 0, 0, 0};
+    bool note = x[PTP_RECORD_KIND] == PTP_NOTE;
+    if (!note && ptp_read_container(s, x[PTP_RECORD_TAKEN], x[PTP_RECORD_BODY_START], own, PTP_CONTAINER_NUMBERS) != 6)
+        return false;
+    return x[PTP_RECORD_CONTAINER_KIND] == own[PTP_CONTAINER_KIND] && x[PTP_RECORD_CODE] == own[PTP_CONTAINER_CODE] &&
+           x[PTP_RECORD_NUMBER] == own[PTP_CONTAINER_NUMBER] && x[PTP_RECORD_PAYLOAD_START] == own[PTP_CONTAINER_PAYLOAD_START] &&
+           x[PTP_RECORD_PAYLOAD_LENGTH] == own[PTP_CONTAINER_PAYLOAD_LENGTH];
+}
+
 static void record(const uint8_t *s, size_t len)
 {
     uint64_t x[PTP_RECORD_NUMBERS];
     if (!gave(ptp_read_record(s, len, x, PTP_RECORD_NUMBERS), 9))
         return;
-    printf("ok");
+    printf(has_its_container(s, x) ? "ok" : "? ok");
     print_number(x[PTP_RECORD_KIND]);
     print_number(x[PTP_RECORD_BODY_START]);
     print_number(x[PTP_RECORD_BODY_LENGTH]);

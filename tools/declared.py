@@ -1,27 +1,15 @@
-"""Fails where C or Rust declares an exported function otherwise than its Rattle source: nothing else compares them.
+"""Fails where C or Rust declares an exported function otherwise than its Rattle source, or calls a number by another name: nothing else compares
+them.
 
 Compared: the parameters' types and the result of each function of the crate `abi` with c/ptp.h and rust/src/archive.rs, which declare each, and
-bench/driver/archive.rs, which declares those that are measured; and how many numbers ptp.h has in a dataset's, a record's and an entry's answer."""
-import os
+bench/driver/archive.rs, which declares those that are measured; and what tools/numbers.py compares."""
 import re
 import sys
 
-ROOT = os.path.dirname(os.path.dirname(os.path.abspath(__file__)))
+from tools import numbers
+from tools.read import parts, sources, text
+
 C_NUMBERS = {'u8': 'uint8_t', 'u16': 'uint16_t', 'u32': 'uint32_t', 'u64': 'uint64_t', 'usize': 'size_t', 'bool': 'bool'}
-
-
-def text(*path):
-    with open(os.path.join(ROOT, *path), encoding='utf-8') as file:
-        return file.read()
-
-
-def sources(crate):
-    folder = os.path.join(ROOT, 'crates', crate, 'src')
-    return '\n'.join(text('crates', crate, 'src', name) for name in sorted(os.listdir(folder)))
-
-
-def parts(parameters):
-    return [part.strip() for part in parameters.split(',') if part.strip()]
 
 
 def exported(crate):
@@ -47,8 +35,7 @@ def in_c(types):
 
 
 def declared_in_c(header):
-    without_comments = re.sub(r'/\*.*?\*/', '', header, flags=re.S)
-    for name, parameters in re.findall(r'^int64_t (\w+)\((.*?)\);', without_comments, re.S | re.M):
+    for name, parameters in re.findall(r'^int64_t (\w+)\((.*?)\);', numbers.without_comments(header), re.S | re.M):
         yield name, [re.sub(r'\w+$', '', part).strip() for part in parts(re.sub(r'\s+', ' ', parameters))]
 
 
@@ -64,13 +51,6 @@ def declared_in_rust(source):
                 else:
                     words.append(C_NUMBERS[kind])
             yield name, words + ([] if result in ('i64', 'u64') else ['-> ' + result])
-
-
-def rows(header):
-    """How many numbers each row function of `abi` makes, and how many names ptp.h has before the one that counts them."""
-    for name, size in re.findall(r'fn (device|object|storage|prop|record|entry)_row\(.*?\) -> \[u64; (\d+)\]', sources('abi'), re.S):
-        listed = re.search(r'enum ptp_%s_number \{(.*?)PTP_%s_NUMBERS' % (name, name.upper()), header, re.S).group(1)
-        yield name, int(size), len(parts(re.sub(r'/\*.*?\*/', '', listed, flags=re.S)))
 
 
 def main():
@@ -90,10 +70,7 @@ def main():
                 faults.append('%s: %s is not exported' % (place, name))
             elif words != in_c(own[name][0]):
                 faults.append('%s: %s takes %s, and is declared with %s' % (place, name, in_c(own[name][0]), words))
-    counts = list(rows(header))
-    faults += ['c/ptp.h: %s has %d numbers, and %d names' % row for row in counts if row[1] != row[2]]
-    if len(counts) != 6:
-        faults.append('c/ptp.h: %d of 6 answers were found' % len(counts))
+    faults += numbers.faults(header)
     print('\n'.join(faults) if faults else 'declared: %d declarations of %d exported functions' % (sum(map(len, places.values())), len(own)))
     return 1 if faults else 0
 
