@@ -52,6 +52,22 @@ pub fn set_value(layout: &str, state: &str, description: &str, code: &str, value
     Some(made(state, session, answer, &out))
 }
 
+// The call's own form for all objects or for the roots, where the handle says that and the call has one.
+fn own_form<'o>(
+    session: &mut Session,
+    name: &str,
+    (storage, filter, handle): (u32, Option<u32>, u32),
+    out: &'o mut [u8],
+) -> Option<Result<Made<'o>, Refusal>> {
+    match (name, handle) {
+        ("GetNumObjects", 0) => Some(session.get_numobjects_all(storage, filter, out)),
+        ("GetNumObjects", 0xFFFFFFFF) => Some(session.get_numobjects_roots(storage, filter, out)),
+        ("GetObjectHandles", 0) => Some(session.get_objecthandles_all(storage, filter, out)),
+        ("GetObjectHandles", 0xFFFFFFFF) => Some(session.get_objecthandles_root(storage, filter, out)),
+        _ => None,
+    }
+}
+
 pub fn call(name: &str, state: &str, ids: [&str; 3], room: &str) -> Option<String> {
     let state = words::half(state)?;
     let [storage, filter, handle] = ids.map(words::half);
@@ -72,6 +88,11 @@ pub fn call(name: &str, state: &str, ids: [&str; 3], room: &str) -> Option<Strin
         _ => return None,
     };
     let answer = answer.map(told);
+    let (mut own, mut own_out) = (Session::at(state), words::room(room)?);
+    if let Some(same) = own_form(&mut own, name, (storage, some_filter, handle), &mut own_out) {
+        assert_eq!(same.map(told), answer);
+        assert_eq!((&own, &own_out), (&session, &out));
+    }
     Some(made(state, session, answer, &out))
 }
 
