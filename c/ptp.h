@@ -286,8 +286,8 @@ enum ptp_list_value_number {
 };
 
 /* Value n, from 0, of the list of the description that begins the bytes. Refusals: those of ptp_prop_info's reading, END and TEXT; PLACE
- * where there is no such value or no list; ROOM. Each call reads the description anew, and a list of strings up to its n-th: to go through
- * a list, take ptp_next_value. */
+ * where there is no such value or no list; ROOM. Each call reads the description anew, and then a list of strings or arrays up to its n-th:
+ * to go through a list, take ptp_next_value. */
 int64_t ptp_list_value(bool book, const uint8_t *s, size_t s_len, size_t n, uint64_t *out, size_t out_len);
 
 enum ptp_next_number {
@@ -301,7 +301,8 @@ enum ptp_next_number {
 
 /* The next of a list's values, from a place on with so many left: first PTP_PROP_LIST_START and PTP_PROP_LIST_COUNT, with
  * PTP_PROP_DATA_TYPE for the code; then the place and the number that the call before gave. Its bytes are those from the one place to the
- * other. Answers 0 where the list has ended. All steps of a list cost what its bytes cost. Refusal: ROOM. */
+ * other. Answers 0 where the list has ended. All steps of a list cost what its bytes cost; only those of UNDEF, up to 65,535, have none.
+ * Refusal: ROOM. */
 int64_t ptp_next_value(const uint8_t *s, size_t s_len, uint16_t code, size_t at, uint16_t left, uint64_t *out, size_t out_len);
 
 enum ptp_newer_number {
@@ -333,8 +334,8 @@ int64_t ptp_command(uint32_t *number, size_t *end, uint16_t code, const uint32_t
 
 /* SetDevicePropValue of a value that the description allows: the Command with the property's code, and right behind it the Data container
  * with the value's tidy spelling. The description begins its bytes; the value is of this type, and fills its bytes. Answers how many bytes,
- * and counts *number on and tells *end as ptp_command does. Refusals, which leave both: END and TEXT of the description; TYPE; END, TEXT and TRAIL of
- * the value; VALUE; COUNT, ROOM. */
+ * and counts *number on and tells *end as ptp_command does. Refusals, which leave both: END and TEXT of the description; TYPE; END, TEXT
+ * and TRAIL of the value; VALUE; COUNT, ROOM. Each call reads the description anew, and looks for the value in its list. */
 int64_t ptp_set_value(bool book, uint32_t *number, size_t *end, const uint8_t *description, size_t description_len, uint16_t code,
                       const uint8_t *value, size_t value_len, uint8_t *out, size_t out_len);
 
@@ -363,7 +364,8 @@ int64_t ptp_path(const uint32_t *handles, size_t handles_len, const uint16_t *pa
                  size_t ends_len, const uint8_t *names, size_t names_len, size_t place, uint8_t *out, size_t out_len);
 
 /* All paths in walk order, in UTF-8, end to end, and the end of each. Answers how many bytes; there are as many ends as handles. Refusals:
- * those of the table as above; ROOM for either output. */
+ * those of the table as above; ROOM for either output. It is refused for ROOM only after the walk. The exact need can be known before: the
+ * root's path is as long as its name by ptp_utf8_len; any other as its parent's, a slash where that is not empty, and its name. */
 int64_t ptp_paths(const uint32_t *handles, size_t handles_len, const uint16_t *parents, size_t parents_len, const uint32_t *ends,
                   size_t ends_len, const uint8_t *names, size_t names_len, uint8_t *out, size_t out_len, uint32_t *out_ends,
                   size_t out_ends_len);
@@ -381,7 +383,8 @@ enum ptp_entry_kind {
 };
 
 /* How many entries the row has; no bytes are a row of none. Refusals, entry by entry: END for six bytes, EDITION, RECORD for a length below 6,
- * END for the rest; END and TEXT of the fields in their order; TRAIL; RECORD for an untidy string, and for a key that stood before; FULL. */
+ * END for the rest; END and TEXT of the fields in their order; TRAIL; RECORD for an untidy string, and for a key that stood before; FULL.
+ * Each key is looked for among those before it: twice as many entries cost up to four times as much. */
 int64_t ptp_settings_check(bool second, const uint8_t *row, size_t row_len);
 
 enum ptp_entry_number {
@@ -409,12 +412,13 @@ enum ptp_kept_number {
 };
 
 /* What is kept of a property: in the second edition for the camera of this serial, by its units, where there is such an entry, else for any.
- * Answers 0 where nothing is kept. Refusals: those of the row; ROOM. */
+ * Answers 0 where nothing is kept. Refusals: those of the row; ROOM. Each call checks the whole row first: to look up many, go through it
+ * once by ptp_settings_entry. */
 int64_t ptp_settings_find(bool second, const uint8_t *row, size_t row_len, uint32_t vendor, uint16_t property, const uint16_t *serial,
                           size_t serial_len, uint64_t *out, size_t out_len);
 
 /* The row with the entry in place of the one that has its key, or last. Answers how many bytes. Refusals: those of the row; those of the
- * entry, TRAIL also where bytes follow it; FULL where 256 others are held; ROOM. */
+ * entry, TRAIL also where bytes follow it; FULL where 256 others are held; ROOM. Each call checks the whole row first. */
 int64_t ptp_settings_store(bool second, const uint8_t *row, size_t row_len, const uint8_t *entry, size_t entry_len, uint8_t *out,
                            size_t out_len);
 

@@ -105,7 +105,8 @@ impl<'a> PtpPropInfo<'a> {
         Ok((info, taken))
     }
 
-    /// Value `n`, from 0, of the list of the description that begins these bytes. Refusals: those of reading it, then PLACE.
+    /// Value `n`, from 0, of the list of the description that begins these bytes, which each call reads anew: for several values
+    /// [`decode`](Self::decode) it once, and ask [`PtpValues::iter`]. Refusals: those of reading it, then PLACE.
     pub fn nth(layout: PropLayout, s: &'a [u8], n: usize) -> Result<PtpValue<'a>, Refusal> {
         let (info, _) = PtpPropInfo::decode(layout, s)?;
         match info.Form {
@@ -167,7 +168,7 @@ impl<'a> PtpValues<'a> {
         self.count == 0
     }
 
-    /// Value `n`, from 0. It reads the description from its start; for all values ask [`iter`](Self::iter). Refusal: PLACE.
+    /// Value `n`, from 0. Each call reads the description from its start; for all values ask [`iter`](Self::iter). Refusal: PLACE.
     pub fn nth(&self, n: usize) -> Result<PtpValue<'a>, Refusal> {
         let [_, start, length] = archive::list_value(self.layout.is_book(), self.dataset, n)?.map(|number| number as usize);
         Ok(PtpValue::new(self.code, &self.dataset[start..start + length]))
@@ -179,7 +180,8 @@ impl<'a> PtpValues<'a> {
     }
 }
 
-/// A list's values, one after the other: each step is the archive's, and all steps cost what the list's bytes cost.
+/// A list's values, one after the other: each step is the archive's, and all steps cost what the list's bytes cost. Only those of UNDEF, up to
+/// 65,535, have none.
 ///
 /// ```
 /// use ptp_proved::{PropLayout, PtpFormData, PtpPropInfo};

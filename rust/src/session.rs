@@ -91,8 +91,10 @@ impl Session {
     }
 
     /// SetDevicePropValue of a value that a property's description allows, with the value's tidy spelling as its data. `code` is the value's
-    /// type; the description, of the layout that is named, begins its bytes. Refusals: END and TEXT of the description; TYPE; END, TEXT and TRAIL of the value, which must fill
-    /// its bytes; VALUE where the description's form does not allow it; COUNT, ROOM.
+    /// type; the description, of the layout that is named, begins its bytes. Refusals: END and TEXT of the description; TYPE; END, TEXT and
+    /// TRAIL of the value, which must fill its bytes; VALUE where the description's form does not allow it; COUNT, ROOM.
+    ///
+    /// Each call reads the description anew, and looks for the value in its list.
     pub fn set_value<'o>(
         &mut self,
         layout: PropLayout,

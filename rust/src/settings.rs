@@ -112,6 +112,8 @@ pub struct Settings<'a> {
 impl<'a> Settings<'a> {
     /// The row that these bytes are; no bytes are an empty one. Refusals, entry by entry: END for six bytes, EDITION, RECORD for a length
     /// below 6, END for the rest; END and TEXT of the fields; TRAIL; RECORD for an untidy string, and for a key that stood before; FULL.
+    ///
+    /// Each key is looked for among those before it: twice as many entries cost up to four times as much.
     pub fn read(edition: Edition, row: &'a [u8]) -> Result<Settings<'a>, Refusal> {
         let count = archive::settings_check(edition.is_second(), row)?;
         Ok(Settings { edition, row, count })
@@ -132,12 +134,32 @@ impl<'a> Settings<'a> {
         self.row
     }
 
-    /// Its entries, in their order.
+    /// Its entries, in their order; one step costs one entry.
     pub fn iter(&self) -> Entries<'a> {
         Entries { settings: *self, place: 0, left: self.count }
     }
 
     /// What is kept of a property: in edition 2 for the camera of this serial, by its units, where there is such an entry; else for any.
+    ///
+    /// Each call checks the whole row, as [`read`](Self::read) does: to look up many, go through [`iter`](Self::iter) once.
+    ///
+    /// ```
+    /// use ptp_proved::{entry_bytes, Edition, Settings};
+    /// let (mut any, mut own) = ([0; 32], [0; 32]);
+    /// let any = entry_bytes(6, 0x5001, None, 2, &[50], &mut any)?;
+    /// let own = entry_bytes(6, 0x5001, Some(&[0x30]), 2, &[60], &mut own)?;
+    /// let row = [any, own].concat();
+    /// let settings = Settings::read(Edition::Two, &row)?;
+    /// let mut kept = std::collections::HashMap::new();
+    /// for entry in settings.iter().filter(|entry| entry.serial.map_or(true, |serial| serial == "0")) {
+    ///     // the camera's own wins
+    ///     if entry.serial.is_some() || !kept.contains_key(&(entry.vendor, entry.property)) {
+    ///         kept.insert((entry.vendor, entry.property), entry.value);
+    ///     }
+    /// }
+    /// assert_eq!(kept[&(6, 0x5001)], settings.find(6, 0x5001, &[0x30]).unwrap().value);
+    /// # Ok::<(), ptp_proved::Refusal>(())
+    /// ```
     pub fn find(&self, vendor: u32, property: u16, serial: &[u16]) -> Option<Kept<'a>> {
         let found = archive::settings_find(self.edition.is_second(), self.row, vendor, property, serial);
         let numbers = found.expect("the row was read whole")?;
@@ -150,6 +172,8 @@ impl<'a> Settings<'a> {
     /// The row with this entry in place of the one that has its key, or last, at the front of the output. `entry` is an entry's bytes, as
     /// [`entry_bytes`] lays them out; they are checked here. Refusals: the entry's own, as in a row, TRAIL also where bytes follow it;
     /// FULL where 256 others are held; ROOM.
+    ///
+    /// Each call checks the whole row, and then the new one, as [`read`](Self::read) does.
     pub fn store<'o>(&self, entry: &[u8], out: &'o mut [u8]) -> Result<Settings<'o>, Refusal> {
         let count = archive::settings_store(self.edition.is_second(), self.row, entry, out)?;
         Settings::read(self.edition, &out[..count])

@@ -41,6 +41,9 @@ impl ObjectTable<'_> {
     }
 
     /// All paths in walk order, end to end, and the end of each. Refusals: those of the walk, then ROOM for either output.
+    ///
+    /// It is refused for ROOM only after the walk. The exact need can be known before: an end for each object; the root's path is as long as
+    /// its name by [`utf8_len`](crate::utf8_len), any other as its parent's, a slash where that is not empty, and its name.
     pub fn paths<'o>(&self, out: &'o mut [u8], out_ends: &'o mut [u32]) -> Result<Paths<'o>, Refusal> {
         let count = archive::paths(self.handles, self.parents, self.ends, self.names, out, out_ends)?;
         Ok(Paths { bytes: &out[..count], ends: &out_ends[..self.handles.len()] })

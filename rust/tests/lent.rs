@@ -117,6 +117,33 @@ fn walk_needs_its_exact_room() {
     }
 }
 
+// As `paths` tells it.
+fn need(table: &ObjectTable) -> usize {
+    let mut lengths = vec![utf8_len(table.names, 0).unwrap().0];
+    for place in 1..table.handles.len() {
+        let above = lengths[table.parents[place] as usize];
+        let (name, _) = utf8_len(table.names, table.ends[place - 1] as usize).unwrap();
+        lengths.push(above + usize::from(above > 0) + name);
+    }
+    lengths.iter().sum()
+}
+
+#[test]
+fn the_need_of_paths_can_be_known() {
+    // a root with a name, in it é, in that B
+    let named = ObjectTable {
+        handles: &[1, 2, 3],
+        parents: &[0, 0, 1],
+        ends: &[5, 10, 15],
+        names: b"\x02R\0\0\0\x02\xE9\0\0\0\x02B\0\0\0",
+    };
+    for table in [TABLE, named] {
+        let (mut out, mut ends) = ([KEPT; 16], [9; 4]);
+        assert_eq!(table.paths(&mut out[..need(&table) - 1], &mut ends), Err(Refusal::ROOM));
+        assert_eq!(table.paths(&mut out[..need(&table)], &mut ends).unwrap().bytes().len(), need(&table));
+    }
+}
+
 #[test]
 fn paths_need_their_exact_room() {
     for (room, ends_room) in [(4, 4), (5, 3), (0, 0), (4, 3)] {
