@@ -11,10 +11,11 @@
  * What a caller owes: a pointer and the length behind it are one array, whose length counts its items and not its bytes. A pointer is
  * aligned for its type and not NULL, also where the length is 0. What is lent for writing overlaps nothing else that is lent.
  *
- * In an answer's numbers a string is the START of its units and their COUNT, an array the START of its items and their COUNT: units and
- * items are of two bytes, low byte first, and so lie in the bytes START to START + 2 * COUNT. A value or a payload is a START and a
- * LENGTH in bytes. Each start is a place in the bytes that were read. TAKEN is how many of these were read. A string's count byte stands
- * right before its START, also where it has no units: ptp_string_place is the place that ptp_utf8 and the like take.
+ * In an answer's numbers a string is the START of its units and their COUNT, an array the START of its items and their COUNT, which lie
+ * there end to end, each with its low byte first. A unit has two bytes, and so has an item of a dataset's array; a handle has four, an item
+ * of a value's array as many as its type. A value or a payload is a START and a LENGTH in bytes. Each start is a place in the bytes that were
+ * read. TAKEN is how many of these were read. A string's count byte stands right before its START, also where it has no units;
+ * ptp_string_place is the place that ptp_utf8 and the like take. The serial of an entry PTP_FOR_ANY alone has no such byte.
  *
  * A property's description has one of two layouts, which the caller names by `book`: true for PIMA 15740's, which has no IsEnable byte,
  * false for the one with that byte behind GetSet. There is no default, and nothing guesses: some bytes fit both.
@@ -378,7 +379,7 @@ int64_t ptp_paths(const uint32_t *handles, size_t handles_len, const uint16_t *p
 
 /* What PTP_ENTRY_KIND and PTP_KEPT_KIND say. */
 enum ptp_entry_kind {
-    PTP_FOR_ANY = 16, /* for any camera: the serial has no units */
+    PTP_FOR_ANY = 16, /* for any camera: no serial stands in its bytes; it has no units, and its START is no string's */
     PTP_FOR_ONE = 17  /* for the camera of this serial */
 };
 

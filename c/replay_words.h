@@ -109,9 +109,11 @@ static void print_units(const uint8_t *s, uint64_t start, uint64_t count)
     printf(">");
 }
 
+/* A string's count byte stands before its units: one more than they are; without any it may be 0 too. */
 static void print_text(const uint8_t *s, uint64_t start, uint64_t count)
 {
-    printf(" ");
+    uint8_t before = s[ptp_string_place(start)];
+    printf(before == count + 1 || (before == 0 && count == 0) ? " " : " ? ");
     print_units(s, start, count);
 }
 
