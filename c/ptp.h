@@ -110,6 +110,7 @@ enum ptp_device_number {
     PTP_DEVICE_NUMBERS /* 25: how many there are */
 };
 
+/* Numbers: ptp_device_number. */
 int64_t ptp_device_info(const uint8_t *s, size_t s_len, uint64_t *out, size_t out_len);
 
 enum ptp_object_number {
@@ -140,6 +141,7 @@ enum ptp_object_number {
     PTP_OBJECT_NUMBERS /* 24 */
 };
 
+/* Numbers: ptp_object_number. */
 int64_t ptp_object_info(const uint8_t *s, size_t s_len, uint64_t *out, size_t out_len);
 
 enum ptp_storage_number {
@@ -157,6 +159,7 @@ enum ptp_storage_number {
     PTP_STORAGE_NUMBERS /* 11 */
 };
 
+/* Numbers: ptp_storage_number. */
 int64_t ptp_storage_info(const uint8_t *s, size_t s_len, uint64_t *out, size_t out_len);
 
 /* What PTP_PROP_FORM says. */
@@ -192,6 +195,7 @@ enum ptp_prop_number {
 
 enum { PTP_ENABLE_ABSENT = 256 }; /* PTP_PROP_IS_ENABLE in the book's layout; no byte is 256 */
 
+/* Numbers: ptp_prop_number. */
 int64_t ptp_prop_info(bool book, const uint8_t *s, size_t s_len, uint64_t *out, size_t out_len);
 
 /* ---- the payloads of camera calls that must be filled: END, TRAIL where bytes follow, ROOM. Those of device and object info are the
@@ -204,15 +208,16 @@ enum ptp_part_number {
     PTP_PART_NUMBERS /* 3 */
 };
 
-/* Object handles, or storage IDs: items of four bytes. */
+/* Object handles, or storage IDs: items of four bytes. Numbers: ptp_part_number. */
 int64_t ptp_handles(const uint8_t *s, size_t s_len, uint64_t *out, size_t out_len);
 
 /* One number, and the place after it. */
 enum ptp_one_number { PTP_ONE_NEXT, PTP_ONE_NUMBER, PTP_ONE_NUMBERS /* 2 */ };
 
+/* How many objects there are. Numbers: ptp_one_number. */
 int64_t ptp_object_count(const uint8_t *s, size_t s_len, uint64_t *out, size_t out_len);
 
-/* As ptp_storage_info gives it; TEXT too. */
+/* A storage record; TEXT too. Numbers: ptp_storage_number. */
 int64_t ptp_storage_payload(const uint8_t *s, size_t s_len, uint64_t *out, size_t out_len);
 
 /* ---- values at a place of the bytes, by their type code ---- */
@@ -241,21 +246,22 @@ enum ptp_value_number {
     PTP_VALUE_NUMBERS /* 4 */
 };
 
-/* Refusals: END, TEXT; ROOM. */
+/* Numbers: ptp_value_number. Refusals: END, TEXT; ROOM. */
 int64_t ptp_value(const uint8_t *s, size_t s_len, size_t at, uint16_t code, uint64_t *out, size_t out_len);
 
-/* Item n, from 0, of the array at a place, as a value. Refusals: PLACE for a code that is no array's; END; PLACE where there is no such
- * item; ROOM. One item costs no more than any other: the array's bytes are not gone through. */
+/* Item n, from 0, of the array at a place, as a value. Numbers: ptp_value_number. Refusals: PLACE for a code that is no array's; END; PLACE
+ * where there is no such item; ROOM. One item costs no more than any other: the array's bytes are not gone through. */
 int64_t ptp_item(const uint8_t *s, size_t s_len, size_t at, uint16_t code, size_t n, uint64_t *out, size_t out_len);
 
-/* A string's units: where they stand. Refusals: END, TEXT; ROOM. */
+/* A string's units: where they stand. Numbers: ptp_part_number. Refusals: END, TEXT; ROOM. */
 int64_t ptp_text(const uint8_t *s, size_t s_len, size_t at, uint64_t *out, size_t out_len);
 
-/* Unit n, from 0, of the string at a place. Refusals: END, TEXT; PLACE; ROOM. Each call reads the whole string: to go through one, take
- * its units by ptp_text. */
+/* Unit n, from 0, of the string at a place. Numbers: ptp_one_number. Refusals: END, TEXT; PLACE; ROOM. Each call reads the whole string: to
+ * go through one, take its units by ptp_text. */
 int64_t ptp_unit(const uint8_t *s, size_t s_len, size_t at, size_t n, uint64_t *out, size_t out_len);
 
-/* A string's length in UTF-8, and the string in UTF-8. Refusals: END, TEXT; ROOM. */
+/* A string's length in UTF-8, and the string in UTF-8, which answers how many bytes. Numbers of the first: ptp_one_number, where
+ * PTP_ONE_NEXT is the place after the string. Refusals: END, TEXT; ROOM. */
 int64_t ptp_utf8_len(const uint8_t *s, size_t s_len, size_t at, uint64_t *out, size_t out_len);
 int64_t ptp_utf8(const uint8_t *s, size_t s_len, size_t at, uint8_t *out, size_t out_len);
 
@@ -286,15 +292,15 @@ enum ptp_list_value_number {
     PTP_LIST_VALUE_NUMBERS /* 3 */
 };
 
-/* Value n, from 0, of the list of the description that begins the bytes. Refusals: those of ptp_prop_info's reading, END and TEXT; PLACE
- * where there is no such value or no list; ROOM. Each call reads the description anew, and then a list of strings or arrays up to its n-th:
- * to go through a list, take ptp_next_value. */
+/* Value n, from 0, of the list of the description that begins the bytes. Numbers: ptp_list_value_number. Refusals: those of ptp_prop_info's
+ * reading, END and TEXT; PLACE where there is no such value or no list; ROOM. Each call reads the description anew, and then a list of
+ * strings or arrays up to its n-th: to go through a list, take ptp_next_value. */
 int64_t ptp_list_value(bool book, const uint8_t *s, size_t s_len, size_t n, uint64_t *out, size_t out_len);
 
 enum ptp_next_number {
     PTP_NEXT_PLACE, /* the place after it */
     PTP_NEXT_LEFT,  /* how many are left then */
-    PTP_NEXT_KIND,
+    PTP_NEXT_KIND,  /* this and what follows as in ptp_value_number */
     PTP_NEXT_FIRST,
     PTP_NEXT_SECOND,
     PTP_NEXT_NUMBERS /* 5 */
@@ -302,8 +308,8 @@ enum ptp_next_number {
 
 /* The next of a list's values, from a place on with so many left: first PTP_PROP_LIST_START and PTP_PROP_LIST_COUNT, with
  * PTP_PROP_DATA_TYPE for the code; then the place and the number that the call before gave. Its bytes are those from the one place to the
- * other. Answers 0 where the list has ended. All steps of a list cost what its bytes cost; only those of UNDEF, up to 65,535, have none.
- * Refusal: ROOM. */
+ * other. Numbers: ptp_next_number. Answers 0 where the list has ended, and where no whole value stands at the place. All steps of a list
+ * cost what its bytes cost; only those of UNDEF, up to 65,535, have none. Refusal: ROOM. */
 int64_t ptp_next_value(const uint8_t *s, size_t s_len, uint16_t code, size_t at, uint16_t left, uint64_t *out, size_t out_len);
 
 enum ptp_newer_number {
@@ -314,7 +320,7 @@ enum ptp_newer_number {
 };
 
 /* The whole payload where it is exactly one value of the description's type, else the description's current value; an empty part of the
- * description where that would be refused. Refusal: ROOM. */
+ * description where that would be refused. Numbers: ptp_newer_number. Refusal: ROOM. */
 int64_t ptp_newer_value(bool book, const uint8_t *description, size_t description_len, const uint8_t *payload, size_t payload_len,
                         uint64_t *out, size_t out_len);
 
@@ -348,8 +354,8 @@ enum ptp_answer_number {
     PTP_ANSWER_NUMBERS /* 4 */
 };
 
-/* The answer to the command of this number, in containers that lie end to end. Refusals, container by container: NOPHASE where no byte is
- * left, END for six bytes, KIND, END for twelve, LENGTH, SIZE, TID; then ROOM. */
+/* The answer to the command of this number, in containers that lie end to end. Numbers: ptp_answer_number. Refusals, container by container:
+ * NOPHASE where no byte is left, END for six bytes, KIND, END for twelve, LENGTH, SIZE, TID; then ROOM. */
 int64_t ptp_find_answer(const uint8_t *s, size_t s_len, uint32_t number, uint64_t *out, size_t out_len);
 
 /* ---- an object table: handles, parents' places, and names end to end with the end of each; 1 to 1,024 objects ---- */
@@ -401,7 +407,7 @@ enum ptp_entry_number {
     PTP_ENTRY_NUMBERS /* 9 */
 };
 
-/* The entry that starts at a place. Refusals: those of one entry, in the same order; ROOM. */
+/* The entry that starts at a place. Numbers: ptp_entry_number. Refusals: those of one entry, in the same order; ROOM. */
 int64_t ptp_settings_entry(bool second, const uint8_t *s, size_t s_len, size_t at, uint64_t *out, size_t out_len);
 
 enum ptp_kept_number {
@@ -413,8 +419,8 @@ enum ptp_kept_number {
 };
 
 /* What is kept of a property: in the second edition for the camera of this serial, by its units, where there is such an entry, else for any.
- * Answers 0 where nothing is kept. Refusals: those of the row; ROOM. Each call checks the whole row first: to look up many, go through it
- * once by ptp_settings_entry. */
+ * Numbers: ptp_kept_number; answers 0 where nothing is kept. Refusals: those of the row; ROOM. Each call checks the whole row first: to look
+ * up many, go through it once by ptp_settings_entry. */
 int64_t ptp_settings_find(bool second, const uint8_t *row, size_t row_len, uint32_t vendor, uint16_t property, const uint16_t *serial,
                           size_t serial_len, uint64_t *out, size_t out_len);
 
@@ -444,7 +450,8 @@ enum ptp_container_number {
     PTP_CONTAINER_NUMBERS /* 6 */
 };
 
-/* The container at a place, an event's too. Refusals: END for six bytes, KIND, END for twelve, LENGTH, SIZE; ROOM. */
+/* The container at a place, an event's too. Numbers: ptp_container_number. Refusals: END for six bytes, KIND, END for twelve, LENGTH, SIZE;
+ * ROOM. */
 int64_t ptp_read_container(const uint8_t *s, size_t s_len, size_t at, uint64_t *out, size_t out_len);
 
 /* A container. Refusals: KIND, COUNT, ROOM. */
@@ -464,8 +471,8 @@ enum ptp_record_number {
     PTP_RECORD_NUMBERS /* 9 */
 };
 
-/* The record that begins the bytes. Refusals: END for six bytes, RECORD, LONG, END for the body; of its container END, KIND, END, LENGTH,
- * SIZE, TRAIL; ROOM. */
+/* The record that begins the bytes. Numbers: ptp_record_number. Refusals: END for six bytes, RECORD, LONG, END for the body; of its container
+ * END, KIND, END, LENGTH, SIZE, TRAIL; ROOM. */
 int64_t ptp_read_record(const uint8_t *s, size_t s_len, uint64_t *out, size_t out_len);
 
 /* A record of kind PTP_FROM_CAMERA or PTP_TO_CAMERA, whose body is one container. Refusals: RECORD, LONG; of the container END, KIND, END,
@@ -484,7 +491,8 @@ enum ptp_listed_number {
 };
 
 /* The lines of the whole records of a window of a recording, as many as have room; a line has at most 128 bytes, and with less room than
- * that nothing is listed. `last` says that the recording ends with the window. Answers how many bytes. Refusal: ROOM for the numbers. */
+ * that nothing is listed. `last` says that the recording ends with the window. Answers how many bytes; the counts are ptp_listed_number's.
+ * Refusal: ROOM for the counts. */
 int64_t ptp_list_window(const uint8_t *s, size_t s_len, bool last, uint64_t place, uint64_t records, uint8_t *out, size_t out_len,
                         uint64_t *counts, size_t counts_len);
 
@@ -493,11 +501,11 @@ int64_t ptp_write_ending(uint64_t records, uint64_t place, uint8_t *out, size_t 
 
 enum ptp_left_number { PTP_LEFT_RECORDS, PTP_LEFT_BYTES, PTP_LEFT_NUMBERS /* 2 */ };
 
-/* A whole recording without its notes: the bytes written, and in `left` how many records and bytes, headers included, were left out.
- * Refusals: those of its first refused record, END by its place in s; ROOM for either output. A refused copy writes to neither. */
+/* A whole recording without its notes: answers how many bytes, and in `left`, by ptp_left_number, how many records and bytes, headers
+ * included, were left out. Refusals: those of its first refused record, END by its place in s; ROOM for either output. A refused copy
+ * writes to neither. */
 int64_t ptp_copy_recording(const uint8_t *s, size_t s_len, uint8_t *out, size_t out_len, uint64_t *left, size_t left_len);
 
-/* What counts has after a recording was mended. */
 enum ptp_mended_number {
     PTP_MENDED_STRETCHES, /* how many stretches were dropped */
     PTP_MENDED_NUMBERS    /* 1 */
@@ -505,8 +513,8 @@ enum ptp_mended_number {
 
 /* A damaged recording mended: every record that can still be read, from the front, is kept as it stands, notes too; where none stands, one
  * byte is dropped. Bytes in damage that look like a record are kept. Answers how many bytes; the dropped stretches, of which no two touch,
- * are told in rising order by their starts in s and their lengths. Refusal: ROOM for any of the four outputs, and nothing is written; the
- * starts and the lengths have room for as many stretches as the shorter of the two. */
+ * are told in rising order by their starts in s and their lengths; the counts are ptp_mended_number's. Refusal: ROOM for any of the four
+ * outputs, and nothing is written; the starts and the lengths have room for as many stretches as the shorter of the two. */
 int64_t ptp_mend_recording(const uint8_t *s, size_t s_len, uint8_t *out, size_t out_len, uint64_t *starts, size_t starts_len,
                            uint64_t *lengths, size_t lengths_len, uint64_t *counts, size_t counts_len);
 
