@@ -49,9 +49,10 @@ enum ptp_refusal {
     PTP_TID = 7,      /* a container carries another transaction number */
     PTP_NOPHASE = 8,  /* the containers stop, and no Response was seen */
     PTP_ROOM = 9,     /* the output is shorter than the exact need */
-    PTP_COUNT = 10,   /* too many parameters, or a payload that is too long */
+    PTP_COUNT = 10,   /* over 254 units, over 5 parameters, over 4,294,967,295 items, a payload over 4,294,967,283 bytes, or bytes that are no
+                         whole items */
     PTP_TABLE = 11,   /* the object table breaks its rule */
-    PTP_PLACE = 12,   /* an index that does not exist */
+    PTP_PLACE = 12,   /* an index that does not exist, or a type code that is no array's, or no integer's, where one is asked for */
     PTP_RECORD = 13,  /* a record's length is below 6, or its kind not 1 to 3, of one to be written not 1 or 2; a setting's length is
                          below 6, it is untidy, or its key stood before */
     PTP_LONG = 14,    /* a record's body is over 65,000 bytes */

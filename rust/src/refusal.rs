@@ -39,11 +39,11 @@ pub enum Refusal {
     NOPHASE,
     /// the output is shorter than the exact need
     ROOM,
-    /// too many parameters, or a payload that is too long
+    /// over 254 units, over 5 parameters, over 4,294,967,295 items, a payload over 4,294,967,283 bytes, or bytes that are no whole items
     COUNT,
     /// the object table breaks its rule
     TABLE,
-    /// an index that does not exist
+    /// an index that does not exist, or a type code that is no array's where one is asked for
     PLACE,
     /// a record's length is below 6, or its kind not 1 to 3, of one to be written not 1 or 2; a setting's length is below 6, it is untidy, or its key stood before
     RECORD,
@@ -95,9 +95,9 @@ impl Refusal {
             TID => "a container carries another transaction number",
             NOPHASE => "the containers stop, and no Response was seen",
             ROOM => "the output is too short",
-            COUNT => "there are too many parameters or items, or the payload is too long",
+            COUNT => "there are too many units, parameters, items or payload bytes, or no whole items",
             TABLE => "the object table breaks its rule",
-            PLACE => "there is no such index",
+            PLACE => "there is no such index, or the type is no array's",
             RECORD => "a record or setting is none",
             LONG => "a record's body is over 65,000 bytes",
             TYPE => "the type is another than the description's, or none that can be set",

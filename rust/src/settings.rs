@@ -237,7 +237,8 @@ impl ExactSizeIterator for Entries<'_> {}
 impl core::iter::FusedIterator for Entries<'_> {}
 
 /// Lays the bytes of an entry out, for [`Settings::store`], which checks them: with the serial's units for one camera, without for any; the
-/// value's type and bytes. Refusals: COUNT for a serial of more than 254 units, which no count byte can tell; ROOM.
+/// value's type and bytes. Refusals: COUNT for a serial of more than 254 units, or a length of more than four bytes, which the entry could not
+/// tell; ROOM.
 pub fn entry_bytes<'o>(
     vendor: u32,
     property: u16,
