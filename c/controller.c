@@ -488,7 +488,7 @@ static fault show_objects(struct controller *c, struct part handles, size_t coun
 /* The roots of a storage, what each is, and their paths; the handle of the second. */
 static fault show_roots(struct controller *c, uint32_t storage, uint32_t *second)
 {
-    const uint32_t roots[] = {storage, 0, 0xFFFFFFFF};
+    const uint32_t roots[] = {storage, 0, PTP_HANDLE_ROOTS};
     struct part handles;
     size_t count;
     fault why = command(c, PTP_COMMAND_GET_OBJECT_HANDLES, roots, 3, &handles);

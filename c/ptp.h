@@ -557,17 +557,22 @@ enum ptp_response {
     PTP_RESPONSE_SPECIFICATION_OF_DESTINATION_UNSUPPORTED = 0x2020
 };
 
+/* In place of a folder's handle: those that stand in no folder, and all objects of the storage. Macros, since no enum of C99 has the first. */
+#define PTP_HANDLE_ROOTS UINT32_C(0xFFFFFFFF)
+#define PTP_HANDLE_ALL UINT32_C(0)
+
+/* Behind a camera call its parameters, as ptp 0.5.0 sends them, and what reads the payload of its answer. */
 enum ptp_command_code {
     PTP_COMMAND_UNDEFINED = 0x1000,
-    PTP_COMMAND_GET_DEVICE_INFO = 0x1001,
-    PTP_COMMAND_OPEN_SESSION = 0x1002,
-    PTP_COMMAND_CLOSE_SESSION = 0x1003,
-    PTP_COMMAND_GET_STORAGE_IDS = 0x1004,
-    PTP_COMMAND_GET_STORAGE_INFO = 0x1005,
-    PTP_COMMAND_GET_NUM_OBJECTS = 0x1006,
-    PTP_COMMAND_GET_OBJECT_HANDLES = 0x1007,
-    PTP_COMMAND_GET_OBJECT_INFO = 0x1008,
-    PTP_COMMAND_GET_OBJECT = 0x1009,
+    PTP_COMMAND_GET_DEVICE_INFO = 0x1001,    /* 0, 0, 0: ptp_device_info */
+    PTP_COMMAND_OPEN_SESSION = 0x1002,       /* 3, 0, 0: opens session 3 */
+    PTP_COMMAND_CLOSE_SESSION = 0x1003,      /* none */
+    PTP_COMMAND_GET_STORAGE_IDS = 0x1004,    /* none: ptp_handles */
+    PTP_COMMAND_GET_STORAGE_INFO = 0x1005,   /* storage: ptp_storage_payload */
+    PTP_COMMAND_GET_NUM_OBJECTS = 0x1006,    /* storage; format, or 0 for any; a folder's handle, or one of the two above: ptp_object_count */
+    PTP_COMMAND_GET_OBJECT_HANDLES = 0x1007, /* the same three: ptp_handles */
+    PTP_COMMAND_GET_OBJECT_INFO = 0x1008,    /* handle: ptp_object_info */
+    PTP_COMMAND_GET_OBJECT = 0x1009,         /* handle: the payload is the object */
     PTP_COMMAND_GET_THUMB = 0x100A,
     PTP_COMMAND_DELETE_OBJECT = 0x100B,
     PTP_COMMAND_SEND_OBJECT_INFO = 0x100C,
@@ -578,9 +583,9 @@ enum ptp_command_code {
     PTP_COMMAND_SELF_TEST = 0x1011,
     PTP_COMMAND_SET_OBJECT_PROTECTION = 0x1012,
     PTP_COMMAND_POWER_DOWN = 0x1013,
-    PTP_COMMAND_GET_DEVICE_PROP_DESC = 0x1014,
-    PTP_COMMAND_GET_DEVICE_PROP_VALUE = 0x1015,
-    PTP_COMMAND_SET_DEVICE_PROP_VALUE = 0x1016,
+    PTP_COMMAND_GET_DEVICE_PROP_DESC = 0x1014,  /* property: ptp_prop_info */
+    PTP_COMMAND_GET_DEVICE_PROP_VALUE = 0x1015, /* property: ptp_value, or ptp_newer_value beside the description */
+    PTP_COMMAND_SET_DEVICE_PROP_VALUE = 0x1016, /* property, and the value as data: ptp_set_value makes it */
     PTP_COMMAND_RESET_DEVICE_PROP_VALUE = 0x1017,
     PTP_COMMAND_TERMINATE_OPEN_CAPTURE = 0x1018,
     PTP_COMMAND_MOVE_OBJECT = 0x1019,

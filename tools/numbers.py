@@ -1,9 +1,9 @@
 """Fails where a number has another name in C or Rust than it has in the proved source. tools/declared.py runs it.
 
-Compared, name by name and number by number: the codes of responses and commands with the name tables of `names`; the refusals with the
-Refusals.antt of the crates that give them; the type codes with those that `wire` tells apart, which alone says which of 9 and 10 is signed; the
-kinds of containers with their words in the listing; the numbers of an answer, in their order, with the row of `abi` that gives them. Each name of
-an answer's number is used in c/replay.c and what it includes, as its head says."""
+Compared, name by name and number by number: the codes of responses and commands with the name tables of `names`; the refusals with the Refusals.antt
+of the crates that give them; the type codes with those that `wire` tells apart, which alone says which of 9 and 10 is signed; the kinds of
+containers with their words in the listing; the handles that are none with those of `session`; the numbers of an answer, in their order, with the row
+of `abi` that gives them. Each name of an answer's number is used in c/replay.c and what it includes, as its head says."""
 import re
 
 from tools.read import parts, sources, text
@@ -101,6 +101,13 @@ def kind_faults(header):
     yield from compared('rust/src/record.rs', numbered(re.findall(r'(\w+) = (\d+)', listed)), judged)
 
 
+def handle_faults(header):
+    roots, everywhere = (re.search(r'^%s = (0x\w+|\d+)$' % name, text('crates', 'session', 'specs', 'Calls.antt'), re.M).group(1)
+                         for name in ('roots', 'everywhere'))
+    found = numbered(re.findall(r'#define PTP_HANDLE_(\w+) UINT32_C\((\w+)\)', header))
+    yield from compared('c/ptp.h', found, numbered([('ROOTS', roots), ('ALL', everywhere)]))
+
+
 # ---- the numbers of an answer
 
 # Where ptp.h has another word than the source; a count of bytes is a length there.
@@ -149,5 +156,5 @@ def unused(header):
 
 
 def faults(header):
-    for each in (code_faults, refusal_faults, type_faults, kind_faults, row_faults, unused):
+    for each in (code_faults, refusal_faults, type_faults, kind_faults, handle_faults, row_faults, unused):
         yield from each(header)

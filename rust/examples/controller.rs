@@ -153,13 +153,14 @@ impl Controller<'_, '_> {
         let payload = self.ask(&|session, out| session.get_objecthandles_root(storage, None, out))?;
         let handles = object_handles(&payload)?;
         // the storage itself is the root, and has no name
-        let (mut all, mut parents, mut ends, mut names) = (vec![0], vec![0], vec![1], vec![0]);
+        let mut name = [0; 511];
+        let mut names = write_text(&[], &mut name)?.to_vec();
+        let (mut all, mut parents, mut ends) = (vec![0], vec![0], vec![names.len() as u32]);
         for handle in &handles {
             let payload = self.ask(&|session, out| session.get_objectinfo(handle, out))?;
             let (info, _) = PtpObjectInfo::decode(&payload)?;
             println!("object {handle} {:>14} {} bytes", info.Filename, info.ObjectCompressedSize);
             let parent = all.iter().position(|&other| other == info.ParentObject).ok_or(Fault::Unexpected)?;
-            let mut name = [0; 511];
             names.extend_from_slice(PtpDataType::STR(info.Filename).encode(&mut name)?);
             all.push(handle);
             parents.push(parent as u16);
