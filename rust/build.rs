@@ -11,12 +11,16 @@ fn main() {
     tell_compiler();
 }
 
+// Where the archive is sought. A relative folder counts from the package: cargo does not tell from where it was called.
+fn archive_folder() -> PathBuf {
+    let package = PathBuf::from(env::var_os("CARGO_MANIFEST_DIR").expect("cargo says where the package is"));
+    let named = env::var_os("PTP_ARCHIVE_DIR").filter(|folder| !folder.is_empty());
+    package.join(named.unwrap_or_else(|| "../target/native".into()))
+}
+
 // Without the archive the crate can be checked and documented: what links it then says that `ptp` is missing, and here is said why.
 fn link_archive() {
-    let folder = match env::var_os("PTP_ARCHIVE_DIR") {
-        Some(folder) => PathBuf::from(folder),
-        None => PathBuf::from(env::var_os("CARGO_MANIFEST_DIR").expect("cargo says where the package is")).join("../target/native"),
-    };
+    let folder = archive_folder();
     let folder = match folder.join(ARCHIVE).canonicalize() {
         Ok(archive) => archive.parent().expect("an archive lies in a folder").to_path_buf(),
         Err(why) => {

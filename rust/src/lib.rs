@@ -1,8 +1,9 @@
 //! The byte layer of the picture transfer protocol, over functions that are proved.
 //!
 //! Names and fields are those of the crate ptp 0.5.0 where they fit. Nothing is allocated: a reading borrows from the bytes that it reads,
-//! and a writer writes into the buffer that it is lent. A call either gives its whole answer or a [`Refusal`]; a refused call leaves
-//! what was lent as it was.
+//! and a writer writes into the buffer that it is lent. The feature `alloc` adds what is: `to_vec` of [`PtpArray`] and [`PtpDataType`],
+//! `Vec::from` an array, `String::from` a [`PtpString`]. A call either gives its whole answer or a [`Refusal`]; a refused call leaves what
+//! was lent as it was.
 //!
 //! What is proved is the archive that src/archive.rs calls: what it takes and refuses, each number, where each string, array and value
 //! lies, each byte written. What stands in Rust takes these parts out of the caller's bytes and reads their integers.

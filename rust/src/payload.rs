@@ -10,7 +10,7 @@ pub fn object_handles(payload: &[u8]) -> Result<PtpArray<'_, u32>, Refusal> {
     Ok(PtpArray::new(&payload[start..start + 4 * count]))
 }
 
-/// Storage IDs: laid out as handles are.
+/// Storage IDs: laid out as handles are. Refusals: those of [`object_handles`].
 pub fn storage_ids(payload: &[u8]) -> Result<PtpArray<'_, u32>, Refusal> {
     object_handles(payload)
 }

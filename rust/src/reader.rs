@@ -23,12 +23,12 @@ pub struct PtpReader<'a> {
 
 macro_rules! integers {
     ($($name:ident $integer:ty, $vec:ident, $code:literal;)*) => {$(
-        /// Refusal: END.
+        #[doc = concat!("An integer, `", stringify!($integer), "`. Refusal: END.")]
         pub fn $name(&mut self) -> Result<$integer, Refusal> {
             self.part($code).map(PtpItem::read)
         }
 
-        /// An array of them. Refusal: END, of its count.
+        #[doc = concat!("An array of `", stringify!($integer), "`. Refusal: END, told of its count, also where an item is cut.")]
         pub fn $vec(&mut self) -> Result<PtpArray<'a, $integer>, Refusal> {
             self.part(0x4000 + $code).map(|bytes| PtpArray::new(&bytes[4..]))
         }
@@ -69,7 +69,7 @@ impl<'a> PtpReader<'a> {
         read_ptp_u128 (u64, u64), read_ptp_u128_vec, 10;
     }
 
-    /// A string. Refusals: END, TEXT.
+    /// A string. Refusals: END, also where a unit is cut, and TEXT, both told of its count byte.
     pub fn read_ptp_str(&mut self) -> Result<PtpString<'a>, Refusal> {
         let [next, start, count] = archive::text(self.bytes, self.place)?.map(|number| number as usize);
         self.place = next;

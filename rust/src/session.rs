@@ -140,7 +140,7 @@ impl Session {
         self.command(StandardCommandCode::GetStorageInfo, &[storage_id], out)
     }
 
-    /// Asks how many objects there are: [`object_count`](crate::object_count) reads the payload. Refusal: ROOM.
+    /// Asks how many objects stand in a folder: [`object_count`](crate::object_count) reads the payload. Refusal: ROOM.
     pub fn get_numobjects<'o>(
         &mut self,
         storage_id: u32,
@@ -151,7 +151,7 @@ impl Session {
         self.command(StandardCommandCode::GetNumObjects, &[storage_id, filter.unwrap_or(0), handle_id], out)
     }
 
-    /// Asks for their handles: [`object_handles`](crate::object_handles) reads the payload. Refusal: ROOM.
+    /// Asks for the handles of those in a folder: [`object_handles`](crate::object_handles) reads the payload. Refusal: ROOM.
     pub fn get_objecthandles<'o>(
         &mut self,
         storage_id: u32,
@@ -162,12 +162,12 @@ impl Session {
         self.command(StandardCommandCode::GetObjectHandles, &[storage_id, filter.unwrap_or(0), handle_id], out)
     }
 
-    /// Of all objects of the storage.
+    /// Asks how many objects the storage has in all: [`object_count`](crate::object_count) reads the payload. Refusal: ROOM.
     pub fn get_numobjects_all<'o>(&mut self, storage_id: u32, filter: Option<u32>, out: &'o mut [u8]) -> Result<Made<'o>, Refusal> {
         self.get_numobjects(storage_id, 0, filter, out)
     }
 
-    /// Of those that stand in no folder.
+    /// Asks how many of them stand in no folder: [`object_count`](crate::object_count) reads the payload. Refusal: ROOM.
     pub fn get_numobjects_roots<'o>(
         &mut self,
         storage_id: u32,
@@ -177,7 +177,7 @@ impl Session {
         self.get_numobjects(storage_id, 0xFFFFFFFF, filter, out)
     }
 
-    /// Of all objects of the storage.
+    /// Asks for the handles of all objects of the storage: [`object_handles`](crate::object_handles) reads the payload. Refusal: ROOM.
     pub fn get_objecthandles_all<'o>(
         &mut self,
         storage_id: u32,
@@ -187,7 +187,7 @@ impl Session {
         self.get_objecthandles(storage_id, 0, filter, out)
     }
 
-    /// Of those that stand in no folder.
+    /// Asks for the handles of those that stand in no folder: [`object_handles`](crate::object_handles) reads the payload. Refusal: ROOM.
     pub fn get_objecthandles_root<'o>(
         &mut self,
         storage_id: u32,

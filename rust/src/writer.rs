@@ -18,25 +18,25 @@ pub fn write_array<'o>(code: u16, items: &[u8], out: &'o mut [u8]) -> Result<&'o
     Ok(&out[..count])
 }
 
-/// The tidy spelling of the value of a type that begins these bytes. Refusals: those of reading it, then ROOM.
+/// The tidy spelling of the value of a type that begins these bytes. Refusals: those of reading it, END and TEXT; ROOM.
 pub fn tidy_value<'o>(code: u16, s: &[u8], out: &'o mut [u8]) -> Result<&'o [u8], Refusal> {
     let count = archive::tidy_value(code, s, out)?;
     Ok(&out[..count])
 }
 
-/// The tidy spelling of the record that begins these bytes. Refusals: those of reading it, then ROOM.
+/// The tidy spelling of the device record that begins these bytes. Refusals: those of reading it, END and TEXT; ROOM.
 pub fn tidy_device<'o>(s: &[u8], out: &'o mut [u8]) -> Result<&'o [u8], Refusal> {
     let count = archive::tidy_device(s, out)?;
     Ok(&out[..count])
 }
 
-/// As [`tidy_device`].
+/// As [`tidy_device`], of an object record; the same refusals.
 pub fn tidy_object<'o>(s: &[u8], out: &'o mut [u8]) -> Result<&'o [u8], Refusal> {
     let count = archive::tidy_object(s, out)?;
     Ok(&out[..count])
 }
 
-/// As [`tidy_device`].
+/// As [`tidy_device`], of a storage record; the same refusals.
 pub fn tidy_storage<'o>(s: &[u8], out: &'o mut [u8]) -> Result<&'o [u8], Refusal> {
     let count = archive::tidy_storage(s, out)?;
     Ok(&out[..count])
