@@ -21,6 +21,7 @@ mod code;
 mod dataset;
 mod listing;
 mod mending;
+mod pad;
 mod payload;
 mod property;
 mod reader;

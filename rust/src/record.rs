@@ -3,6 +3,7 @@ use crate::archive;
 use crate::dataset::Row;
 use crate::refusal::Refusal;
 use crate::session::Made;
+use core::fmt;
 
 /// A container's kind.
 ///
@@ -95,7 +96,6 @@ pub fn write_record<'o>(kind: u16, body: &[u8], out: &'o mut [u8]) -> Result<&'o
 /// assert_eq!(recorder.bytes().len(), 30 + 18);
 /// # Ok::<(), ptp_proved::Refusal>(())
 /// ```
-#[derive(Debug)]
 pub struct Recorder<'o> {
     room: &'o mut [u8],
     held: usize,
@@ -109,6 +109,11 @@ impl<'o> Recorder<'o> {
 
     /// All records, end to end.
     pub fn bytes(&self) -> &[u8] {
+        &self.room[..self.held]
+    }
+
+    /// The same, when no more is to be added: they stay as long as the room is lent.
+    pub fn into_bytes(self) -> &'o [u8] {
         &self.room[..self.held]
     }
 
@@ -147,6 +152,13 @@ impl<'o> Recorder<'o> {
     fn add(&mut self, kind: RecordKind, container: &[u8]) -> Result<(), Refusal> {
         self.held += archive::write_record(kind as u16, container, &mut self.room[self.held..])?;
         Ok(())
+    }
+}
+
+/// What was recorded, and how much room there is in all.
+impl fmt::Debug for Recorder<'_> {
+    fn fmt(&self, f: &mut fmt::Formatter<'_>) -> fmt::Result {
+        f.debug_struct("Recorder").field("bytes", &self.bytes()).field("room", &self.room.len()).finish()
     }
 }
 

@@ -1,4 +1,5 @@
 //! Why a call gave nothing.
+use crate::pad::padded;
 use core::fmt;
 
 /// The eighteen refusals. Where several conditions hold, a call gives the first in its own order.
@@ -120,8 +121,8 @@ impl Refusal {
 impl fmt::Display for Refusal {
     fn fmt(&self, f: &mut fmt::Formatter<'_>) -> fmt::Result {
         match self.place() {
-            Some(at) => write!(f, "{} (at byte {})", self.sentence(), at),
-            None => f.write_str(self.sentence()),
+            Some(at) => padded(f, |to| write!(to, "{} (at byte {at})", self.sentence())),
+            None => f.pad(self.sentence()),
         }
     }
 }

@@ -1,6 +1,7 @@
 //! A string's units, in the caller's bytes.
 use crate::archive;
 use crate::array::{Items, PtpArray};
+use crate::pad::padded;
 use crate::refusal::Refusal;
 use core::fmt::{self, Write};
 
@@ -103,17 +104,7 @@ impl PartialEq<&str> for PtpString<'_> {
 
 impl fmt::Display for PtpString<'_> {
     fn fmt(&self, f: &mut fmt::Formatter<'_>) -> fmt::Result {
-        // a width counts characters, as that of a `str` does
-        let missing = f.width().unwrap_or(0).saturating_sub(self.chars().count());
-        let before = match f.align() {
-            Some(fmt::Alignment::Right) => missing,
-            Some(fmt::Alignment::Center) => missing / 2,
-            _ => 0,
-        };
-        let fill = f.fill();
-        (0..before).try_for_each(|_| f.write_char(fill))?;
-        self.chars().try_for_each(|c| f.write_char(c))?;
-        (before..missing).try_for_each(|_| f.write_char(fill))
+        padded(f, |to| self.chars().try_for_each(|c| to.write_char(c)))
     }
 }
 

@@ -1,6 +1,7 @@
 //! A property's value: its bytes, and what they say.
 use crate::archive;
 use crate::array::{PtpArray, PtpItem};
+use crate::pad::padded;
 use crate::refusal::Refusal;
 use crate::text::PtpString;
 use core::fmt;
@@ -208,7 +209,8 @@ impl fmt::Display for PtpValue<'_> {
     }
 }
 
-/// Integers in decimal, those of 128 bits as a pair of halves; arrays as lists; a string as its text.
+/// Integers in decimal, those of 128 bits as a pair of halves; arrays as lists; a string as its text. A width pads the integers of up to 64 bits
+/// as it pads a number, all else as a `str`.
 impl fmt::Display for PtpDataType<'_> {
     fn fmt(&self, f: &mut fmt::Formatter<'_>) -> fmt::Result {
         use PtpDataType::*;
@@ -222,16 +224,16 @@ impl fmt::Display for PtpDataType<'_> {
             UINT32(n) => n.fmt(f),
             INT64(n) => n.fmt(f),
             UINT64(n) => n.fmt(f),
-            INT128((high, low)) | UINT128((high, low)) => write!(f, "{high}:{low}"),
-            AINT8(a) => write!(f, "{a:?}"),
-            AUINT8(a) => write!(f, "{a:?}"),
-            AINT16(a) => write!(f, "{a:?}"),
-            AUINT16(a) => write!(f, "{a:?}"),
-            AINT32(a) => write!(f, "{a:?}"),
-            AUINT32(a) => write!(f, "{a:?}"),
-            AINT64(a) => write!(f, "{a:?}"),
-            AUINT64(a) => write!(f, "{a:?}"),
-            AINT128(a) | AUINT128(a) => write!(f, "{a:?}"),
+            INT128((high, low)) | UINT128((high, low)) => padded(f, |to| write!(to, "{high}:{low}")),
+            AINT8(a) => padded(f, |to| write!(to, "{a:?}")),
+            AUINT8(a) => padded(f, |to| write!(to, "{a:?}")),
+            AINT16(a) => padded(f, |to| write!(to, "{a:?}")),
+            AUINT16(a) => padded(f, |to| write!(to, "{a:?}")),
+            AINT32(a) => padded(f, |to| write!(to, "{a:?}")),
+            AUINT32(a) => padded(f, |to| write!(to, "{a:?}")),
+            AINT64(a) => padded(f, |to| write!(to, "{a:?}")),
+            AUINT64(a) => padded(f, |to| write!(to, "{a:?}")),
+            AINT128(a) | AUINT128(a) => padded(f, |to| write!(to, "{a:?}")),
             STR(text) => text.fmt(f),
         }
     }

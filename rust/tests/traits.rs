@@ -52,6 +52,30 @@ fn every_refusal_is_a_sentence_of_its_own() {
     assert_eq!(said.iter().filter(|sentence| sentence.ends_with(" (at byte 5)")).count(), 2);
 }
 
+#[test]
+fn a_width_is_kept() {
+    let wide = PtpDataType::UINT128((2, 1));
+    assert_eq!(format!("[{wide}][{wide:5}][{wide:>5}][{wide:^6}][{wide:2}]"), "[2:1][2:1  ][  2:1][ 2:1  ][2:1]");
+    let array = PtpReader::new(&[2, 0, 0, 0, 7, 8]).read_type(0x4002).unwrap();
+    assert_eq!(format!("{array:*>8}{array:7}|"), "**[7, 8][7, 8] |");
+    let (end, trail) = (Refusal::END { at: 5 }, Refusal::TRAIL);
+    assert_eq!(format!("{end:.>52}{trail:38}|"), format!(".{end}{trail} |"));
+    // in characters, and not in bytes
+    let text = PtpReader::new(b"\x03A\0\xE9\0\0\0").read_ptp_str().unwrap();
+    assert_eq!(format!("{text:^5}|{text:1}"), " Aé  |Aé");
+}
+
+#[test]
+fn a_recorder_shows_what_was_recorded() {
+    let mut room = [7; 20];
+    let mut recorder = Recorder::new(&mut room);
+    assert_eq!(format!("{recorder:?}"), "Recorder { bytes: [], room: 20 }");
+    recorder.received(b"\x0C\0\0\0\x03\0\x01\x20\0\0\0\0").unwrap();
+    assert_eq!(format!("{recorder:?}").matches(", ").count(), 18);
+    // the recorder is gone, and what it recorded stays
+    assert_eq!(recorder.into_bytes(), b"\x12\0\0\0\x01\0\x0C\0\0\0\x03\0\x01\x20\0\0\0\0");
+}
+
 #[cfg(feature = "alloc")]
 #[test]
 fn what_is_allocated_says_the_same() {
