@@ -8,6 +8,7 @@
 //! - All numbers are plain: every bit pattern that comes back is one that its type has.
 #![allow(unsafe_code)]
 use crate::refusal::Refusal;
+use crate::tree::ObjectTable;
 
 // The archive's usize is a word of 64 bits, and its answers are as wide.
 const _: () = assert!(usize::BITS == 64);
@@ -348,31 +349,6 @@ fn place(word: i64) -> Option<(usize, usize)> {
     (word != 0).then_some((word as usize / 65536, word as usize % 65536))
 }
 
-pub(crate) fn path(
-    handles: &[u32],
-    parents: &[u16],
-    ends: &[u32],
-    names: &[u8],
-    place: usize,
-    out: &mut [u8],
-) -> Result<usize, Refusal> {
-    told(unsafe {
-        ptp_path(
-            handles.as_ptr(),
-            handles.len(),
-            parents.as_ptr(),
-            parents.len(),
-            ends.as_ptr(),
-            ends.len(),
-            names.as_ptr(),
-            names.len(),
-            place,
-            out.as_mut_ptr(),
-            out.len(),
-        )
-    })
-}
-
 pub(crate) fn device_info(s: &[u8]) -> Result<[u64; 25], Refusal> {
     read(ptp_device_info, s)
 }
@@ -545,47 +521,27 @@ pub(crate) fn settings_store(second: bool, row: &[u8], entry: &[u8], out: &mut [
     told(unsafe { ptp_settings_store(second, row.as_ptr(), row.len(), entry.as_ptr(), entry.len(), out.as_mut_ptr(), out.len()) })
 }
 
-pub(crate) fn walk(handles: &[u32], parents: &[u16], ends: &[u32], names: &[u8], places: &mut [u16]) -> Result<usize, Refusal> {
-    told(unsafe {
-        ptp_walk(
-            handles.as_ptr(),
-            handles.len(),
-            parents.as_ptr(),
-            parents.len(),
-            ends.as_ptr(),
-            ends.len(),
-            names.as_ptr(),
-            names.len(),
-            places.as_mut_ptr(),
-            places.len(),
-        )
-    })
+// A function of an object table, whose four slices come first, with what else it takes.
+macro_rules! of_table {
+    ($function:ident, $table:expr, $($more:expr),+) => {{
+        let ObjectTable { handles, parents, ends, names } = *$table;
+        let (handles, handles_len) = (handles.as_ptr(), handles.len());
+        let (parents, parents_len) = (parents.as_ptr(), parents.len());
+        let (ends, ends_len) = (ends.as_ptr(), ends.len());
+        told(unsafe { $function(handles, handles_len, parents, parents_len, ends, ends_len, names.as_ptr(), names.len(), $($more),+) })
+    }};
 }
 
-pub(crate) fn paths(
-    handles: &[u32],
-    parents: &[u16],
-    ends: &[u32],
-    names: &[u8],
-    out: &mut [u8],
-    out_ends: &mut [u32],
-) -> Result<usize, Refusal> {
-    told(unsafe {
-        ptp_paths(
-            handles.as_ptr(),
-            handles.len(),
-            parents.as_ptr(),
-            parents.len(),
-            ends.as_ptr(),
-            ends.len(),
-            names.as_ptr(),
-            names.len(),
-            out.as_mut_ptr(),
-            out.len(),
-            out_ends.as_mut_ptr(),
-            out_ends.len(),
-        )
-    })
+pub(crate) fn walk(table: &ObjectTable<'_>, places: &mut [u16]) -> Result<usize, Refusal> {
+    of_table!(ptp_walk, table, places.as_mut_ptr(), places.len())
+}
+
+pub(crate) fn path(table: &ObjectTable<'_>, place: usize, out: &mut [u8]) -> Result<usize, Refusal> {
+    of_table!(ptp_path, table, place, out.as_mut_ptr(), out.len())
+}
+
+pub(crate) fn paths(table: &ObjectTable<'_>, out: &mut [u8], out_ends: &mut [u32]) -> Result<usize, Refusal> {
+    of_table!(ptp_paths, table, out.as_mut_ptr(), out.len(), out_ends.as_mut_ptr(), out_ends.len())
 }
 
 #[cfg(test)]

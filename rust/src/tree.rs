@@ -30,13 +30,13 @@ impl ObjectTable<'_> {
     /// The places in walk order: by depth, then by the places from the root down. It needs room for as many as there are objects.
     /// Refusals: TABLE; then name by name END, TEXT, TRAIL; then ROOM.
     pub fn walk<'o>(&self, places: &'o mut [u16]) -> Result<&'o [u16], Refusal> {
-        let count = archive::walk(self.handles, self.parents, self.ends, self.names, places)?;
+        let count = archive::walk(self, places)?;
         Ok(&places[..count])
     }
 
     /// The path of one place. It checks the whole table: for all paths ask [`paths`](Self::paths). Refusals: those of the walk; PLACE; ROOM.
     pub fn path<'o>(&self, place: usize, out: &'o mut [u8]) -> Result<&'o str, Refusal> {
-        let count = archive::path(self.handles, self.parents, self.ends, self.names, place, out)?;
+        let count = archive::path(self, place, out)?;
         Ok(core::str::from_utf8(&out[..count]).expect("a path is UTF-8"))
     }
 
@@ -45,7 +45,7 @@ impl ObjectTable<'_> {
     /// It is refused for ROOM only after the walk. The exact need can be known before: an end for each object; the root's path is as long as
     /// its name by [`utf8_len`](crate::utf8_len), any other as its parent's, a slash where that is not empty, and its name.
     pub fn paths<'o>(&self, out: &'o mut [u8], out_ends: &'o mut [u32]) -> Result<Paths<'o>, Refusal> {
-        let count = archive::paths(self.handles, self.parents, self.ends, self.names, out, out_ends)?;
+        let count = archive::paths(self, out, out_ends)?;
         Ok(Paths { bytes: &out[..count], ends: &out_ends[..self.handles.len()] })
     }
 }
