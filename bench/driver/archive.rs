@@ -27,6 +27,7 @@ mod archive {
                      ends: *const u32, end_count: usize, names: *const u8, len: usize, out: *mut u8, room: usize,
                      out_ends: *mut u32, out_count: usize) -> u64;
         pub fn ptp_text(s: *const u8, len: usize, at: usize, out: *mut u64, room: usize) -> u64;
+        pub fn ptp_utf8_len(s: *const u8, len: usize, at: usize, out: *mut u64, room: usize) -> u64;
         pub fn ptp_utf8(s: *const u8, len: usize, at: usize, out: *mut u8, room: usize) -> u64;
         pub fn ptp_read_container(s: *const u8, len: usize, at: usize, out: *mut u64, room: usize) -> u64;
         pub fn ptp_tidy_device(s: *const u8, len: usize, out: *mut u8, room: usize) -> u64;
@@ -55,6 +56,10 @@ mod archive {
 
     pub fn text(s: &[u8], out: &mut [u64]) -> u64 {
         unsafe { ptp_text(s.as_ptr(), s.len(), 0, out.as_mut_ptr(), out.len()) }
+    }
+
+    pub fn utf8_len(s: &[u8], out: &mut [u64]) -> u64 {
+        unsafe { ptp_utf8_len(s.as_ptr(), s.len(), 0, out.as_mut_ptr(), out.len()) }
     }
 
     pub fn utf8(s: &[u8], out: &mut [u8]) -> u64 {

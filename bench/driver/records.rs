@@ -89,20 +89,23 @@ mod records {
     }
 
     pub fn strings() {
-        for &(name, characters) in &[
-            ("string of 254 units, ASCII", "The quick brown fox. "),
-            ("string of 254 units, 1 to 4 bytes in UTF-8", "Größe 12 日本語 \u{1F600}, "),
+        let read: fn(&[u8]) -> Result<String, Error> = black_box(|s| Cursor::new(s).read_ptp_str());
+        let mut out = vec![0u8; 1024];
+        let mut measured = [0u64; 2];
+        for &(name, length, characters) in &[
+            ("string of 254 units, ASCII", "length in UTF-8 of 254 units, ASCII", "The quick brown fox. "),
+            ("string of 254 units, 1 to 4 bytes in UTF-8", "length in UTF-8 of 254 units, 1 to 4 bytes", "Größe 12 日本語 \u{1F600}, "),
         ] {
             let text = long_text(characters, 254);
             let data = string(&text);
-            let mut out = vec![0u8; 1024];
-            let read: fn(&[u8]) -> Result<String, Error> = black_box(|s| Cursor::new(s).read_ptp_str());
             assert_eq!(read(&data).expect("a string"), text);
             let count = accepted(utf8(&data, &mut out));
             assert_eq!(&out[..count], text.as_bytes());
+            assert_eq!((accepted(utf8_len(&data, &mut measured)), measured), (2, [data.len() as u64, count as u64]));
             line(name, 1,
                  side(|| { black_box(utf8(black_box(&data), &mut out)); }),
                  Some(side(|| { black_box(read(black_box(&data)).is_ok()); })));
+            line(length, 1, side(|| { black_box(utf8_len(black_box(&data), &mut measured)); }), None);
         }
     }
 }
