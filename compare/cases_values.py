@@ -14,6 +14,8 @@ RUN_LENGTHS = (0, 1, 15, 16, 17, 31, 32, 33, 253, 254)
 # What stands in a run of ASCII: a unit around the limits, a pair, a surrogate alone, two that are no pair.
 IN_RUNS = [(0x7F,), (0x80,), (0xD7FF,), (0xE000,), (0xFFFF,), (0xD83D, 0xDE00), (0xDBFF,), (0xDC00,),
            (0xD800, 0xDBFF), (0xDC00, 0xDFFF), (0xDC00, 0xD800)]
+# Code points at the limits of one, two, three and four bytes of UTF-8.
+AT_LIMITS = "\x7F\x80\u07FF\u0800\U00010000"
 
 
 def names(question, first, count):
@@ -63,6 +65,15 @@ def broken_runs(at_edges):
 
 def edge_runs():
     return itertools.chain(ascii_runs(), broken_runs(True))
+
+
+def mixed_strings():
+    """Every row of up to five code points at the limits. A writer of UTF-8 may put as many as fill four bytes at once: so those that do and
+    those that do not, and what is left after them."""
+    for count in range(1, 6):
+        for points in itertools.product(AT_LIMITS, repeat=count):
+            units = "".join(points).encode("utf-16-le")
+            yield bytes([len(units) // 2 + 1]) + units + bytes(2)
 
 
 def wrapping_arrays():
@@ -167,7 +178,7 @@ def short_utf8(rng):
         yield f"utf8 0 {hexed(data)} {room_for(rng, lambda: utf8_of(data, 0))}"
     for unit in range(0, 0x10000, 11):
         yield f"utf8 0 {hexed(string_bytes([unit]))} 4"
-    for data in edge_runs():
+    for data in itertools.chain(edge_runs(), mixed_strings()):
         yield f"utf8 0 {hexed(data)} {room_for(rng, lambda: utf8_of(data, 0))}"
 
 

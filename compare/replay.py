@@ -23,6 +23,8 @@ MALFORMED_LINES = 250
 # Of the runs of units, by each question that is asked about them: short lines, and lines of any length.
 SHORT_RUNS = 14
 RUNS = 3
+# Of the rows of code points at the limits of UTF-8.
+MIXED_ROWS = 120
 # A sampled question and its answer are no longer than this together.
 LONGEST_SAMPLED = 700
 # So many of a question's cases are looked through for the sample.
@@ -88,6 +90,11 @@ def runs():
         yield from spread(lines, RUNS)
 
 
+def mixed():
+    """Code points of one to four bytes of UTF-8, in many an order, with just the room that they need."""
+    return spread([f"utf8 0 {data.hex()} {len(cases_values.utf8_of(data, 0))}" for data in cases_values.mixed_strings()], MIXED_ROWS)
+
+
 def no_questions():
     lines = itertools.islice(cases.cases_of(rules.MALFORMED, SEED), LOOKED_THROUGH)
     return spread([line for line in lines if is_plain(line) and is_short(line)], MALFORMED_LINES)
@@ -100,7 +107,7 @@ def group_of(line):
 
 def all_lines():
     """Every line of the replay once, question by question."""
-    lines = dict.fromkeys(itertools.chain(written_down(), every_name(), runs()))
+    lines = dict.fromkeys(itertools.chain(written_down(), every_name(), runs(), mixed()))
     for name in ask.QUESTIONS:
         lines.update(dict.fromkeys(sampled(name)))
     lines.update(dict.fromkeys(no_questions()))
