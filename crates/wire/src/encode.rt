@@ -43,9 +43,38 @@ fn put_ascii(s: &[u8], start: usize, count: usize, out: &mut [u8], o: usize) -> 
 
 // ── a code point ──
 
+fn unit(s: &[u8], at: usize) -> u32
+    requires { ⌜ 2 ≤ length (now s) - at ⌝ }
+    ensures { λ r. ⌜ (r ≡ number (take 2 (drop at (now (s .entry))))) × (r < 0x10000) ⌝ }
+{
+    text::unit_at(&*s, at) as u32
+}
+
+// The two, three or four bytes of a code point, as a number, the first lowest.
+fn two_bytes(c: u32) -> u32
+    requires { ⌜ (0x80 ≤ c) × (c < 0x800) ⌝ }
+    ensures { λ r. ⌜ (r ≡ number (encoded c)) × (r < 0x10000) ⌝ }
+{
+    0x80C0 + c / 64 + c % 64 * 256
+}
+
+fn three_bytes(c: u32) -> u32
+    requires { ⌜ (0x800 ≤ c) × (c < 0x10000) ⌝ }
+    ensures { λ r. ⌜ r ≡ number (encoded c) ⌝ }
+{
+    0x8080E0 + c / 4096 + c / 64 % 64 * 256 + c % 64 * 65536
+}
+
+fn four_bytes(c: u32) -> u32
+    requires { ⌜ (0x10000 ≤ c) × (c < 0x110000) ⌝ }
+    ensures { λ r. ⌜ r ≡ number (encoded c) ⌝ }
+{
+    0x808080F0 + c / 262144 + c / 4096 % 64 * 256 + c / 64 % 64 * 65536 + c % 64 * 16777216
+}
+
 // A code point, and how many units it takes.
 struct Point {
-    value: u64,
+    value: u32,
     units: usize,
 }
 
@@ -54,47 +83,34 @@ fn point_at(s: &[u8], at: usize, left: usize) -> Point
     requires { ⌜ (0 < left) × (left * 2 ≤ length (now s) - at) ⌝ }
     ensures { λ r. ⌜ Leads (now (s .entry)) at left r ⌝ }
 {
-    let u = text::unit_at(&*s, at) as u64;
+    let u = unit(&*s, at);
     if u / 1024 != 54 {
         return Point { value: u, units: 1 };
     }
     if left == 1 {
         return Point { value: u, units: 1 };
     }
-    let v = text::unit_at(&*s, at + 2) as u64;
+    let v = unit(&*s, at + 2);
     Point {
         value: 65536 + u % 1024 * 1024 + v % 1024,
         units: 2,
     }
 }
 
-// The caller saw to the room: no byte is tested for it.
-fn put_point(c: u64, out: &mut [u8], o: usize) -> usize
+fn put_point(c: u32, out: &mut [u8], o: usize) -> usize
     requires { ⌜ (c < 0x110000) × (length (encoded c) ≤ length (now out) - o) ⌝ }
     ensures { λ r. ⌜ Put (now (out .entry)) o (encoded c) (now (out .exit)) r ⌝ }
 {
     if c < 0x80 {
-        out[o] = c as u8;
-        return o + 1;
+        return layout::store(out, o, 1, c as u64);
     }
-    let last = (0x80 + c % 64) as u8;
     if c < 0x800 {
-        out[o] = (0xC0 + c / 64) as u8;
-        out[o + 1] = last;
-        return o + 2;
+        return layout::store(out, o, 2, two_bytes(c) as u64);
     }
-    let third = (0x80 + c / 64 % 64) as u8;
     if c < 0x10000 {
-        out[o] = (0xE0 + c / 4096) as u8;
-        out[o + 1] = third;
-        out[o + 2] = last;
-        return o + 3;
+        return layout::store(out, o, 3, three_bytes(c) as u64);
     }
-    out[o] = (0xF0 + c / 262144) as u8;
-    out[o + 1] = (0x80 + c / 4096 % 64) as u8;
-    out[o + 2] = third;
-    out[o + 3] = last;
-    o + 4
+    layout::store(out, o, 4, four_bytes(c) as u64)
 }
 
 // One code point at a time, each by its own bytes.
@@ -127,38 +143,10 @@ struct Word {
     size: usize,
 }
 
-fn unit(s: &[u8], at: usize) -> u32
-    requires { ⌜ 2 ≤ length (now s) - at ⌝ }
-    ensures { λ r. ⌜ (r ≡ number (take 2 (drop at (now (s .entry))))) × (r < 0x10000) ⌝ }
-{
-    text::unit_at(&*s, at) as u32
-}
-
 fn either(a: u32, b: u32) -> u32
     ensures { λ r. ⌜ (a ≤ r) × (b ≤ r) ⌝ }
 {
     a | b
-}
-
-fn two_bytes(c: u32) -> u32
-    requires { ⌜ (0x80 ≤ c) × (c < 0x800) ⌝ }
-    ensures { λ r. ⌜ (r ≡ number (encoded c)) × (r < 0x10000) ⌝ }
-{
-    0x80C0 + c / 64 + c % 64 * 256
-}
-
-fn three_bytes(c: u32) -> u32
-    requires { ⌜ (0x800 ≤ c) × (c < 0x10000) ⌝ }
-    ensures { λ r. ⌜ r ≡ number (encoded c) ⌝ }
-{
-    0x8080E0 + c / 4096 + c / 64 % 64 * 256 + c % 64 * 65536
-}
-
-fn four_bytes(c: u32) -> u32
-    requires { ⌜ (0x10000 ≤ c) × (c < 0x110000) ⌝ }
-    ensures { λ r. ⌜ r ≡ number (encoded c) ⌝ }
-{
-    0x808080F0 + c / 262144 + c / 4096 % 64 * 256 + c / 64 % 64 * 65536 + c % 64 * 16777216
 }
 
 // Four units below 0x80, or the first of them. The bits of the others are looked at together.

@@ -4,15 +4,14 @@ use mathlib.Core.Path.{_≡_, refl, ap}
 use mathlib.Core.Bool.{Bool, true, false}
 use mathlib.Core.List.{List, [], _∷_, _++_}
 use Prim.Native.Nat.{ℕ, suc, _+_, _-_, _*_, _/_, _%_, _≤_, _<_}
-use native.Mathlib.Numerals.{add-one}
 use native.Mathlib.Omega.{arith}
 use borrow.Author.Tests.{eq-eqb, ne-eqb, lt-ltb, le-ltb}
 use lib.Dec.{ltb}
-use lib.ListN.{length, take, drop, set, length-append}
+use lib.ListN.{length, take, drop, length-append}
 use Rattle.layout.specs.Answer.{Told, Answer, got, refused, pick, means}
-use Rattle.layout.specs.Bytes.{Bytes, number, cells}
-use Rattle.layout.specs.Written.{put, Put, spelling}
-use Rattle.layout.proofs.laws.Numbers.{Bytes-drop}
+use Rattle.layout.specs.Bytes.{Bytes, bytes, number, cells}
+use Rattle.layout.specs.Written.{spelling}
+use Rattle.layout.proofs.laws.Numbers.{Bytes-drop, bytes-number}
 use Rattle.wire.specs.declared.Part.{Part}
 use Rattle.wire.specs.Layout.{high}
 use Rattle.wire.specs.Places.{textAt, itemsIn}
@@ -188,27 +187,17 @@ utf8-short s h at = go (textAt s at) (text-few s h at)
     go (got p n) f = omega (arith, f p n refl, utf8-few (itemsIn 2 s p), length-cells 2 (p .count) (drop (p .start) s))
     go (refused t) f = omega arith
 
--- ── a code point's bytes, stored one after the other ──
+-- ── a code point's bytes, as a number ──
 
-module _ (out : List ℕ) (o c : ℕ) where
-  pub one-put : c < 0x80 → Put out o (encoded c) (set out o c) (o + 1)
-  unfolding put
-  one-put h = rw (one-is c h) (record { bytes = refl; place = refl })
+module _ (c x : ℕ) (is : x ≡ number (encoded c)) where
+  pub one-word : c < 0x80 → bytes 1 x ≡ encoded c
+  one-word h = rw (is, one-is c h) (bytes-number (c ∷ []) (omega arith, tt))
 
-  pub two-put : 0x80 ≤ c → c < 0x800 → Put out o (encoded c) (set (set out o (0xC0 + c / 64)) (o + 1) (0x80 + c % 64)) (o + 2)
-  unfolding put
-  two-put g h = rw (two-is c g h) (record { bytes = rw add-one; place = refl })
+  pub two-word : 0x80 ≤ c → c < 0x800 → bytes 2 x ≡ encoded c
+  two-word g h = rw (is, two-is c g h) (bytes-number (two-bytes c) (omega arith, (omega arith, tt)))
 
-  pub three-put : 0x800 ≤ c → c < 0x10000 → Put out o (encoded c) (set (set (set out o (0xE0 + c / 4096)) (o + 1) (0x80 + c / 64 % 64)) (o + 2) (0x80 + c % 64)) (o + 3)
-  unfolding put
-  three-put g h =
-      let two : o + 2 ≡ suc (suc o) = omega arith in
-      rw (three-is c g h) (record { bytes = rw (add-one, two); place = refl })
+  pub three-word : 0x800 ≤ c → c < 0x10000 → bytes 3 x ≡ encoded c
+  three-word g h = rw (is, three-is c g h) (bytes-number (three-bytes c) (omega arith, (omega arith, (omega arith, tt))))
 
-  pub four-put : 0x10000 ≤ c
-      → Put out o (encoded c) (set (set (set (set out o (0xF0 + c / 262144)) (o + 1) (0x80 + c / 4096 % 64)) (o + 2) (0x80 + c / 64 % 64)) (o + 3) (0x80 + c % 64)) (o + 4)
-  unfolding put
-  four-put g =
-      let two : o + 2 ≡ suc (suc o) = omega arith in
-      let three : o + 3 ≡ suc (suc (suc o)) = omega arith in
-      rw (four-is c g) (record { bytes = rw (add-one, two, three); place = refl })
+  pub four-word : 0x10000 ≤ c → c < 0x110000 → bytes 4 x ≡ encoded c
+  four-word g h = rw (is, four-is c g) (bytes-number (four-bytes c) (omega arith, (omega arith, (omega arith, (omega arith, tt)))))

@@ -8,31 +8,29 @@ use Rattle.wire.proofs.encode.point_at.Tie as tie
 returns : tie.Need-returns
 returns c =
     let k = c .before .before .before in
-    alone (k .args .s .now) (k .args .at) (k .args .left) (c .before .unit-at .result) (k .pre .0) (c .before .unit-at .ensures) (omega arith) (c .if1 .taken)
+    alone (k .args .s .now) (k .args .at) (k .args .left) (c .before .unit .result) (k .pre .0) (c .before .unit .ensures .0) (omega arith) (c .if1 .taken)
 
 returns-2 : tie.Need-returns-2
 returns-2 c =
     let k = c .before .before .before .before in
-    let w = c .before .before .unit-at in
-    last (k .args .s .now) (k .args .at) (k .args .left) (w .result) (k .pre .0) (w .ensures) (omega arith) (c .if2 .taken)
+    let w = c .before .before .unit in
+    last (k .args .s .now) (k .args .at) (k .args .left) (w .result) (k .pre .0) (w .ensures .0) (omega arith) (c .if2 .taken)
 
 returns-3 : tie.Need-returns-3
 returns-3 c =
     let k = c .before .before .before .before .before in
-    let w = c .before .before .before .unit-at in
-    pair (k .args .s .now) (k .args .at) (k .args .left) (w .result) (k .pre .0) (w .ensures) (omega arith) (c .unit-at2 .result) (c .unit-at2 .ensures) (c .before .before .if1 .left) (c .before .if2 .left)
+    let w = c .before .before .before .unit in
+    pair (k .args .s .now) (k .args .at) (k .args .left) (w .result) (k .pre .0) (w .ensures .0) (omega arith) (c .unit2 .result) (c .unit2 .ensures .0) (c .before .before .if1 .left) (c .before .if2 .left)
 
 pub point-at-spec : {M : Type 1} → statement M
 point-at-spec =
     tie.close
     (tie.spec
     (λ c κs. search needs)
-    (λ c. search needs)
     returns
     returns-2
     (λ c. search needs)
     (λ c κs. search needs)
-    (λ c. search needs)
     (λ c. search needs)
     (λ c. search needs)
     (λ c. search needs)

@@ -1,80 +1,61 @@
--- `wire::encode::put_point`: by the tests that led there the point has one to four bytes, for which the caller has room. Assumes nothing.
-use mathlib.Core.Path.{ap}
-use Prim.Native.Nat.{_+_, _≤_}
+-- `wire::encode::put_point`: the bytes of its number, as many as it has, which have room. Assumes nothing.
 use native.Mathlib.Omega.{arith}
 use borrow.Author.Needs.{needs}
-use denote.Ref.{now}
-use lib.ListN.{length, length-set}
-use Rattle.wire.proofs.laws.Points.{one-is, two-is, three-is, four-is, one-put, two-put, three-put, four-put}
+use Rattle.layout.specs.Bytes.{number}
+use Rattle.layout.proofs.laws.Writing.{roomy}
+use Rattle.wire.specs.Utf8.{encoded}
+use Rattle.wire.proofs.laws.Points.{one-is, one-word, two-word, three-word, four-word}
 use Rattle.wire.proofs.encode.put_point.Statement.{statement}
 use Rattle.wire.proofs.encode.put_point.Tie as tie
 
-one : (c : tie.Then1) → c .before .args .o + 1 ≤ length (now (c .before .args .out))
-one c = omega (arith, ap length (one-is (c .before .args .c) (c .if1 .taken)))
+one : tie.Need-returns
+unfolding number
+one c =
+    let k = c .before .before .before .before .before .before in
+    let v = k .args .c in
+    let h = c .before .before .before .before .if1 .taken in
+    roomy (encoded v) (rw (one-word v v (rw (one-is v h) (omega arith)) h) at (c .before .before .store .ensures)) (k .pre .1)
 
-two : (c : tie.Then2) → c .before .before .args .o + 2 ≤ length (now (c .before .before .args .out))
-two c = omega (arith, ap length (two-is (c .before .before .args .c) (c .before .if1 .left) (c .if2 .taken)))
+two : tie.Need-returns-2
+two c =
+    let k = c .before .before .before .before .before .before .before .before in
+    let w = c .before .before .before .two-bytes in
+    let is = two-word (k .args .c) (w .result) (w .ensures .0) (c .before .before .before .before .before .before .if1 .left) (c .before .before .before .before .before .if2 .taken) in
+    roomy (encoded (k .args .c)) (rw is at (c .before .before .store2 .ensures)) (k .pre .1)
 
-three : (c : tie.Then3) → c .before .before .before .args .o + 3 ≤ length (now (c .before .before .before .args .out))
-three c = omega (arith, ap length (three-is (c .before .before .before .args .c) (c .before .if2 .left) (c .if3 .taken)))
+three : tie.Need-returns-3
+three c =
+    let k = c .before .before .before .before .before .before .before .before .before in
+    let w = c .before .before .before .three-bytes in
+    let is = three-word (k .args .c) (w .result) (w .ensures) (c .before .before .before .before .before .before .if2 .left) (c .before .before .before .before .before .if3 .taken) in
+    roomy (encoded (k .args .c)) (rw is at (c .before .before .store3 .ensures)) (k .pre .1)
 
-four : (c : tie.Else3) → c .before .before .before .args .o + 4 ≤ length (now (c .before .before .before .args .out))
-four c = omega (arith, ap length (four-is (c .before .before .before .args .c) (c .if3 .left)))
-
-returns : tie.Need-returns
-returns c = let a = c .before .args in one-put (now (a .out)) (a .o) (a .c) (c .if1 .taken)
-
-returns-2 : tie.Need-returns-2
-returns-2 c = let a = c .before .before .args in two-put (now (a .out)) (a .o) (a .c) (c .before .if1 .left) (c .if2 .taken)
-
-returns-3 : tie.Need-returns-3
-returns-3 c = let a = c .before .before .before .args in three-put (now (a .out)) (a .o) (a .c) (c .before .if2 .left) (c .if3 .taken)
-
-returns-4 : tie.Need-returns-4
-returns-4 c = let a = c .before .before .before .args in four-put (now (a .out)) (a .o) (a .c) (c .if3 .left)
+four : tie.Need-returns-4
+four c =
+    let k = c .before .before .before .before .before .before .before .before .before in
+    let w = c .before .before .before .four-bytes in
+    let is = four-word (k .args .c) (w .result) (w .ensures) (c .before .before .before .before .before .if3 .left) (k .pre .0) in
+    roomy (encoded (k .args .c)) (rw is at (c .before .before .store4 .ensures)) (k .pre .1)
 
 pub put-point-spec : {M : Type 1} → statement M
 put-point-spec =
     tie.close
     (tie.spec
+    (λ c κs. search needs)
     (λ c. search needs)
-    (λ c. omega (arith, one c))
-    (λ c. omega (arith, one c))
+    one
+    (λ c κs. search needs)
     (λ c. search needs)
-    returns
+    (λ c κs. search needs)
     (λ c. search needs)
+    two
+    (λ c κs. search needs)
     (λ c. search needs)
+    (λ c κs. search needs)
     (λ c. search needs)
+    three
+    (λ c κs. search needs)
     (λ c. search needs)
-    (λ c. omega (arith, two c))
-    (λ c. omega (arith, two c))
-    (λ c. simp length-set (omega (arith, two c)))
-    (λ c. omega (arith, two c))
+    (λ c κs. search needs)
     (λ c. search needs)
-    returns-2
-    (λ c. search needs)
-    (λ c. search needs)
-    (λ c. search needs)
-    (λ c. search needs)
-    (λ c. omega (arith, three c))
-    (λ c. omega (arith, three c))
-    (λ c. simp length-set (omega (arith, three c)))
-    (λ c. omega (arith, three c))
-    (λ c. simp length-set (omega (arith, three c)))
-    (λ c. omega (arith, three c))
-    (λ c. search needs)
-    returns-3
-    (λ c. search needs)
-    (λ c. search needs)
-    (λ c. omega (arith, four c))
-    (λ c. search needs)
-    (λ c. search needs)
-    (λ c. omega (arith, four c))
-    (λ c. simp length-set (omega (arith, four c)))
-    (λ c. omega (arith, four c))
-    (λ c. simp length-set (omega (arith, four c)))
-    (λ c. omega (arith, four c))
-    (λ c. simp length-set (omega (arith, four c)))
-    (λ c. omega (arith, four c))
-    (λ c. search needs)
-    returns-4)
+    four)
