@@ -264,12 +264,16 @@ fn put_words(s: &[u8], start: usize, count: usize, out: &mut [u8], o: usize) -> 
     put_points(&*s, at, (start + count * 2 - at) / 2, out, next)
 }
 
-// Units in UTF-8. The caller saw to the room.
+// Units in UTF-8. The caller saw to the room. `put_words` is called at two places, so that the compiler leaves it by itself: ASCII, which most strings
+// are, then needs no register that it does.
 pub(crate) fn put_units(s: &[u8], start: usize, count: usize, out: &mut [u8], o: usize) -> usize
     requires { ⌜ count * 2 ≤ length (now s) - start ⌝ }
     requires { ⌜ length (utf8 (cells 2 count (drop start (now s)))) ≤ length (now out) - o ⌝ }
     ensures { λ r. ⌜ Put (now (out .entry)) o (utf8 (cells 2 count (drop start (now (s .entry))))) (now (out .exit)) r ⌝ }
 {
+    if count < 4 {
+        return put_words(&*s, start, count, out, o);
+    }
     if text::is_ascii(s, start, count) {
         return put_ascii(s, start, count, out, o);
     }
