@@ -407,34 +407,39 @@ static fault set_next(struct controller *c, struct part description)
     }
 }
 
-/* The objects of a storage, as ptp_paths takes them. The storage itself is the root, and has no name. */
-struct table {
-    uint32_t *handles;
-    uint16_t *parents;
-    uint32_t *ends;
-    uint8_t *names;
-    size_t count;
-};
-
-static fault add_object(struct table *t, uint32_t handle, uint64_t parent, struct part name)
+/* A table of objects with the storage itself alone: it is the root, and has no name. */
+static fault begin_objects(struct ptp_objects *o, uint8_t *names, size_t names_len)
 {
-    size_t end = t->ends[t->count - 1], place = 0;
-    while (place < t->count && t->handles[place] != parent)
-        place++;
-    if (place == t->count)
-        return UNEXPECTED;
-    int64_t answer = ptp_tidy_value(PTP_STRING, name.s, name.len, t->names + end, STRING_ROOM);
-    if (answer < 0)
-        return answer;
-    t->handles[t->count] = handle;
-    t->parents[t->count] = (uint16_t)place;
-    t->ends[t->count] = (uint32_t)(end + (size_t)answer);
-    t->count++;
+    const uint16_t no_units[1] = {0};
+    int64_t end = ptp_write_text(no_units, 0, names, names_len);
+    if (end < 0)
+        return end;
+    o->handles[0] = 0;
+    o->parents[0] = 0;
+    o->ends[0] = (uint32_t)end;
+    o->marks[0] = 1;
+    o->count = 1;
+    o->names = names;
+    o->names_len = names_len;
     return NONE;
 }
 
+static fault add_object(struct ptp_objects *o, uint32_t handle, uint64_t parent, struct part name)
+{
+    uint8_t tidy[STRING_ROOM];
+    size_t place = 0;
+    while (place < o->count && o->handles[place] != parent) /* none is deleted here: all are live */
+        place++;
+    if (place == o->count)
+        return UNEXPECTED;
+    int64_t answer = ptp_tidy_value(PTP_STRING, name.s, name.len, tidy, STRING_ROOM);
+    if (answer >= 0)
+        answer = ptp_objects_add(o, place, handle, tidy, (size_t)answer);
+    return answer < 0 ? answer : NONE;
+}
+
 /* What an object is; it goes into the table. */
-static fault show_object(struct controller *c, uint32_t handle, struct table *t)
+static fault show_object(struct controller *c, uint32_t handle, struct ptp_objects *o)
 {
     struct part payload;
     uint64_t object[PTP_OBJECT_NUMBERS];
@@ -449,46 +454,41 @@ static fault show_object(struct controller *c, uint32_t handle, struct table *t)
     printf(" %" PRIu64 " bytes\n", object[PTP_OBJECT_OBJECT_COMPRESSED_SIZE]);
     size_t place = ptp_string_place(object[PTP_OBJECT_FILENAME_START]);
     struct part name = {payload.s + place, payload.len - place};
-    return add_object(t, handle, object[PTP_OBJECT_PARENT_OBJECT], name);
+    return add_object(o, handle, object[PTP_OBJECT_PARENT_OBJECT], name);
 }
 
-static fault show_paths(const struct table *t)
+static fault show_paths(const struct ptp_objects *o)
 {
     uint8_t text[TEXT_ROOM];
-    uint32_t *ends = (uint32_t *)room_for(t->count, sizeof *ends);
-    int64_t answer = ptp_paths(t->handles, t->count, t->parents, t->count, t->ends, t->count, t->names, t->ends[t->count - 1], text, TEXT_ROOM,
-                               ends, t->count);
+    uint32_t ends[PTP_PLACES];
+    int64_t answer = ptp_objects_paths(o, text, TEXT_ROOM, ends, PTP_PLACES);
     size_t start = 0;
-    for (size_t n = 0; answer >= 0 && n < t->count; start = ends[n++]) {
+    for (size_t n = 0; answer >= 0 && n < o->count; start = ends[n++]) {
         printf("path /");
         fwrite(text + start, 1, ends[n] - start, stdout);
         printf("\n");
     }
-    free(ends);
     return answer < 0 ? answer : NONE;
 }
 
 /* The objects of these handles, and their paths. */
-static fault show_objects(struct controller *c, struct part handles, size_t count, struct table *t)
+static fault show_objects(struct controller *c, struct part handles, size_t count, struct ptp_objects *o)
 {
-    const uint16_t no_units[1] = {0};
     uint32_t handle;
-    int64_t answer = ptp_write_text(no_units, 0, t->names, STRING_ROOM);
-    fault why = answer < 0 ? answer : NONE;
-    t->ends[0] = (uint32_t)answer;
-    t->count = 1;
+    fault why = NONE;
     for (size_t n = 0; !why && n < count; n++) {
         why = handle_at(handles, n, &handle);
         if (!why)
-            why = show_object(c, handle, t);
+            why = show_object(c, handle, o);
     }
-    return why ? why : show_paths(t);
+    return why ? why : show_paths(o);
 }
 
 /* The roots of a storage, what each is, and their paths; the handle of the second. */
 static fault show_roots(struct controller *c, uint32_t storage, uint32_t *second)
 {
     const uint32_t roots[] = {storage, 0, PTP_HANDLE_ROOTS};
+    static struct ptp_objects objects;
     struct part handles;
     size_t count;
     fault why = command(c, PTP_COMMAND_GET_OBJECT_HANDLES, roots, 3, &handles);
@@ -496,13 +496,11 @@ static fault show_roots(struct controller *c, uint32_t storage, uint32_t *second
         why = count_handles(handles, &count);
     if (why)
         return why;
-    struct table t = {(uint32_t *)room_for(count + 1, sizeof *t.handles), (uint16_t *)room_for(count + 1, sizeof *t.parents),
-                      (uint32_t *)room_for(count + 1, sizeof *t.ends), (uint8_t *)room_for(count + 1, STRING_ROOM), 0};
-    why = show_objects(c, handles, count, &t);
-    free(t.handles);
-    free(t.parents);
-    free(t.ends);
-    free(t.names);
+    uint8_t *names = (uint8_t *)room_for(count + 1, STRING_ROOM);
+    why = begin_objects(&objects, names, (count + 1) * STRING_ROOM);
+    if (!why)
+        why = show_objects(c, handles, count, &objects);
+    free(names);
     return why ? why : handle_at(handles, 1, second);
 }
 

@@ -1,6 +1,6 @@
-/* The byte layer of the picture transfer protocol: forty-six proved functions, in C.
+/* The byte layer of the picture transfer protocol: forty-nine proved functions, in C.
  *
- * Each function answers how many numbers or bytes it gave, 0 or more; or a refusal, below 0: minus (its number, 1 to 18, and 256 times its
+ * Each function answers how many numbers or bytes it gave, 0 or more; or a refusal, below 0: minus (its number, 1 to 19, and 256 times its
  * place), which ptp_refusal_number and ptp_refusal_place take apart. The place is that of the first byte of the field that failed, for
  * END and TEXT: an array's count, a string's count byte, a list's failing value. It counts in the bytes that were lent, of an object's
  * name in that name. A place from 2^55 - 1 on is told as that one, which no array reaches. Every other refusal has the place 0.
@@ -20,8 +20,9 @@
  * A property's description has one of two layouts, which the caller names by `book`: true for PIMA 15740's, which has no IsEnable byte,
  * false for the one with that byte behind GetSet. There is no default, and nothing guesses: some bytes fit both.
  *
- * What is proved: every function that is declared here stands in the archive, and is proved. Plain C are the three that are defined here,
- * arithmetic on one number of an answer each: ptp_refusal_number, ptp_refusal_place and ptp_string_place.
+ * What is proved: every function that is declared here stands in the archive, and is proved. Plain C are the nine that are defined here.
+ * Three are arithmetic on one number of an answer each: ptp_refusal_number, ptp_refusal_place and ptp_string_place. Six hand the parts of a
+ * struct ptp_objects on: ptp_objects_walk, ptp_objects_path, ptp_objects_paths, ptp_objects_delete, ptp_objects_collect and ptp_objects_add.
  */
 #ifndef PTP_H
 #define PTP_H
@@ -52,14 +53,16 @@ enum ptp_refusal {
     PTP_COUNT = 10,   /* over 254 units, over 5 parameters, over 4,294,967,295 items, a payload over 4,294,967,283 bytes, or bytes that are no
                          whole items */
     PTP_TABLE = 11,   /* the object table breaks its rule */
-    PTP_PLACE = 12,   /* an index that does not exist, or a type code that is no array's, or no integer's, where one is asked for */
+    PTP_PLACE = 12,   /* an index that does not exist, an object that is not live, the root where one is deleted, or a type code that is no
+                         array's, or no integer's, where one is asked for */
     PTP_RECORD = 13,  /* a record's length is below 6, or its kind not 1 to 3, of one to be written not 1 or 2; a setting's length is
                          below 6, it is untidy, or its key stood before */
     PTP_LONG = 14,    /* a record's body is over 65,000 bytes */
     PTP_TYPE = 15,    /* another type than the description's, one that is none, or a range of anything but integers of 8 to 64 bits */
     PTP_VALUE = 16,   /* the description's form does not allow the value */
     PTP_EDITION = 17, /* a setting's kind is not one of the edition */
-    PTP_FULL = 18     /* 256 settings with other keys are held */
+    PTP_FULL = 18,    /* 256 settings with other keys are held */
+    PTP_TAKEN = 19    /* 1,024 live objects are held */
 };
 
 /* Of an answer below 0: which refusal it is, one of the numbers above. Plain C. */
@@ -359,24 +362,117 @@ enum ptp_answer_number {
  * NOPHASE where no byte is left, END for six bytes, KIND, END for twelve, LENGTH, SIZE, TID; then ROOM. */
 int64_t ptp_find_answer(const uint8_t *s, size_t s_len, uint32_t number, uint64_t *out, size_t out_len);
 
-/* ---- an object table: handles, parents' places, and names end to end with the end of each; 1 to 1,024 objects ---- */
+/* ---- an object table: handles, parents' places, live marks, and names end to end with the end of each ----
+ *
+ * Each of its four lists has PTP_PLACES places. The count, 1 to 1,024, says how many are used; the others are not looked at. Place 0 is the
+ * root, with parent entry 0; every other parent entry is smaller than its own place. A mark of 0 is an object that is not live, every other
+ * mark a live one: the root is live, and so is the parent of each live object. No end is below the one before it or past the names. Between
+ * them stands wholly one string for each object, live or not; bytes may follow the last.
+ *
+ * The table's refusals: TABLE where a list has not 1,024 places or this rule is broken; then, name by name in table order, END, TEXT, TRAIL.
+ * Each call checks the whole table first, every name of it. */
 
-/* The places in walk order: by depth, then by the places from the root down. Answers how many. Refusals: TABLE; name by name END, TEXT,
- * TRAIL; ROOM. */
+enum {
+    PTP_PLACES = 1024, /* how many places a list of a table has */
+    PTP_GONE = 65535   /* the new place of an object that has none */
+};
+
+/* The places of the live objects in walk order: by depth, then by the places from the root down. Answers how many. Refusals: the table's;
+ * ROOM. */
 int64_t ptp_walk(const uint32_t *handles, size_t handles_len, const uint16_t *parents, size_t parents_len, const uint32_t *ends,
-                 size_t ends_len, const uint8_t *names, size_t names_len, uint16_t *places, size_t places_len);
+                 size_t ends_len, const uint8_t *marks, size_t marks_len, size_t count, const uint8_t *names, size_t names_len,
+                 uint16_t *places, size_t places_len);
 
-/* The path of one place, in UTF-8. Answers how many bytes. Refusals: those of the table as above; PLACE; ROOM. Each call checks the whole
- * table: for all paths take ptp_paths. */
+/* The path of one live object, in UTF-8. Answers how many bytes. Refusals: the table's; PLACE where no live object stands; ROOM. For all
+ * paths take ptp_paths. */
 int64_t ptp_path(const uint32_t *handles, size_t handles_len, const uint16_t *parents, size_t parents_len, const uint32_t *ends,
-                 size_t ends_len, const uint8_t *names, size_t names_len, size_t place, uint8_t *out, size_t out_len);
+                 size_t ends_len, const uint8_t *marks, size_t marks_len, size_t count, const uint8_t *names, size_t names_len, size_t place,
+                 uint8_t *out, size_t out_len);
 
-/* All paths in walk order, in UTF-8, end to end, and the end of each. Answers how many bytes; there are as many ends as handles. Refusals:
- * those of the table as above; ROOM for either output. It is refused for ROOM only after the walk. The exact need can be known before: the
- * root's path is as long as its name by ptp_utf8_len; any other as its parent's, a slash where that is not empty, and its name. */
+/* The paths of all live objects in walk order, in UTF-8, end to end, and the end of each. Answers how many bytes; there are as many ends as
+ * live objects. Refusals: the table's; ROOM for either output. It is refused for ROOM only after the walk. The exact need can be known
+ * before: the root's path is as long as its name by ptp_utf8_len; any other as its parent's, a slash where that is not empty, and its name. */
 int64_t ptp_paths(const uint32_t *handles, size_t handles_len, const uint16_t *parents, size_t parents_len, const uint32_t *ends,
-                  size_t ends_len, const uint8_t *names, size_t names_len, uint8_t *out, size_t out_len, uint32_t *out_ends,
-                  size_t out_ends_len);
+                  size_t ends_len, const uint8_t *marks, size_t marks_len, size_t count, const uint8_t *names, size_t names_len, uint8_t *out,
+                  size_t out_len, uint32_t *out_ends, size_t out_ends_len);
+
+/* Ends the object at a place and all that stand below it: their marks become 0, and nothing else changes. Answers the count, which stays.
+ * Refusals: the table's; PLACE for the root, and where no live object stands. */
+int64_t ptp_table_delete(const uint32_t *handles, size_t handles_len, const uint16_t *parents, size_t parents_len, const uint32_t *ends,
+                         size_t ends_len, uint8_t *marks, size_t marks_len, size_t count, const uint8_t *names, size_t names_len, size_t place);
+
+/* Moves the live objects down in their order, with their names, and makes the mark of each 1. Answers the new count: from there on each list
+ * keeps what it held, and so do the names past the last end. new_places, a list of 1,024 too, tells for each place below the old count the
+ * new one, PTP_GONE for none; behind these it keeps what it held. The walk and the paths are then what they were, but for the places.
+ * Refusals: the table's, TABLE also for new_places. Each object and each name byte is moved once at most. */
+int64_t ptp_table_collect(uint32_t *handles, size_t handles_len, uint16_t *parents, size_t parents_len, uint32_t *ends, size_t ends_len,
+                          uint8_t *marks, size_t marks_len, size_t count, uint8_t *names, size_t names_len, uint16_t *new_places,
+                          size_t new_places_len);
+
+/* Adds an object below the one at a place, with the bytes of one string for its name. It collects first exactly where the count is 1,024, or
+ * fewer name bytes are left behind the last end than the name has. Answers its place: the count is one more then. That place is below the
+ * old count exactly where it collected; new_places are told as above, and else each is its own. Refusals: those of ptp_table_collect; PLACE
+ * for a parent that is not live; END, TEXT and TRAIL of the name; TAKEN with 1,024 live objects; ROOM where the names of the live objects
+ * and the new one do not fit. It costs a check of the table, and where it must the collecting. */
+int64_t ptp_table_add(uint32_t *handles, size_t handles_len, uint16_t *parents, size_t parents_len, uint32_t *ends, size_t ends_len,
+                      uint8_t *marks, size_t marks_len, size_t count, uint8_t *names, size_t names_len, uint16_t *new_places,
+                      size_t new_places_len, size_t parent, uint32_t handle, const uint8_t *name, size_t name_len);
+
+/* A table in one piece: 13 KB, and room for the names elsewhere, 511 bytes for the longest. It begins with its root alone: the name stands
+ * first in names, as ptp_write_text writes it, ends[0] is its length, handles[0] its handle, parents[0] is 0, marks[0] and count are 1. */
+struct ptp_objects {
+    uint32_t handles[PTP_PLACES];
+    uint16_t parents[PTP_PLACES];
+    uint32_t ends[PTP_PLACES];
+    uint8_t marks[PTP_PLACES];
+    size_t count;
+    uint8_t *names;
+    size_t names_len;
+    uint16_t new_places[PTP_PLACES]; /* what was told last */
+};
+
+/* Each function of a table for one in one piece: it answers the same, and keeps the new count. Plain C. */
+static inline int64_t ptp_objects_walk(const struct ptp_objects *o, uint16_t *places, size_t places_len)
+{
+    return ptp_walk(o->handles, PTP_PLACES, o->parents, PTP_PLACES, o->ends, PTP_PLACES, o->marks, PTP_PLACES, o->count, o->names,
+                    o->names_len, places, places_len);
+}
+
+static inline int64_t ptp_objects_path(const struct ptp_objects *o, size_t place, uint8_t *out, size_t out_len)
+{
+    return ptp_path(o->handles, PTP_PLACES, o->parents, PTP_PLACES, o->ends, PTP_PLACES, o->marks, PTP_PLACES, o->count, o->names,
+                    o->names_len, place, out, out_len);
+}
+
+static inline int64_t ptp_objects_paths(const struct ptp_objects *o, uint8_t *out, size_t out_len, uint32_t *out_ends, size_t out_ends_len)
+{
+    return ptp_paths(o->handles, PTP_PLACES, o->parents, PTP_PLACES, o->ends, PTP_PLACES, o->marks, PTP_PLACES, o->count, o->names,
+                     o->names_len, out, out_len, out_ends, out_ends_len);
+}
+
+static inline int64_t ptp_objects_delete(struct ptp_objects *o, size_t place)
+{
+    return ptp_table_delete(o->handles, PTP_PLACES, o->parents, PTP_PLACES, o->ends, PTP_PLACES, o->marks, PTP_PLACES, o->count, o->names,
+                            o->names_len, place);
+}
+
+static inline int64_t ptp_objects_collect(struct ptp_objects *o)
+{
+    int64_t count = ptp_table_collect(o->handles, PTP_PLACES, o->parents, PTP_PLACES, o->ends, PTP_PLACES, o->marks, PTP_PLACES, o->count,
+                                      o->names, o->names_len, o->new_places, PTP_PLACES);
+    if (count >= 0)
+        o->count = (size_t)count;
+    return count;
+}
+
+static inline int64_t ptp_objects_add(struct ptp_objects *o, size_t parent, uint32_t handle, const uint8_t *name, size_t name_len)
+{
+    int64_t place = ptp_table_add(o->handles, PTP_PLACES, o->parents, PTP_PLACES, o->ends, PTP_PLACES, o->marks, PTP_PLACES, o->count,
+                                  o->names, o->names_len, o->new_places, PTP_PLACES, parent, handle, name, name_len);
+    if (place >= 0)
+        o->count = (size_t)place + 1;
+    return place;
+}
 
 /* ---- settings: a row of entries, a property's value each, for a camera of one serial or for any ----
  *

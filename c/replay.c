@@ -152,7 +152,7 @@ static void print_made(int64_t answer, uint32_t state, uint32_t number, size_t e
 static void command(uint32_t state, const char *code, const char *params_word, const char *data_word, const char *room_word)
 {
     static uint32_t params[MOST_PARAMS];
-    size_t params_len = read_list(params_word, params);
+    size_t params_len = read_list(params_word, params, sizeof *params);
     size_t len = data_word ? read_bytes(data_word, first) : 0;
     size_t room = number_of(room_word);
     uint32_t number = state;
@@ -228,12 +228,9 @@ static void settings(bool edition, const uint8_t *row, size_t len)
 
 static void settings_find(bool edition, char *const *word)
 {
-    static uint32_t list[MOST_PARAMS];
     static uint16_t serial[MOST_PARAMS];
     uint64_t x[PTP_KEPT_NUMBERS];
-    size_t len = read_bytes(word[2], first), units = read_list(word[5], list);
-    for (size_t i = 0; i < units; i++)
-        serial[i] = (uint16_t)list[i];
+    size_t len = read_bytes(word[2], first), units = read_list(word[5], serial, sizeof *serial);
     int64_t found = ptp_settings_find(edition, first, len, number_of(word[3]), (uint16_t)number_of(word[4]), serial, units, x, PTP_KEPT_NUMBERS);
     if (found == 0) {
         printf("none");
@@ -295,19 +292,6 @@ static void copy(const uint8_t *s, size_t len, const char *room_word)
     }
 }
 
-/* Equal neighbours as one, with their count. */
-static void print_runs(const uint64_t *list, size_t len)
-{
-    fputs(len ? " " : " -", stdout);
-    for (size_t i = 0, times; i < len; i += times) {
-        for (times = 1; i + times < len && list[i + times] == list[i]; times++)
-            ;
-        printf("%s%" PRIu64, i ? "," : "", list[i]);
-        if (times > 1)
-            printf("*%zu", times);
-    }
-}
-
 static void mend(const uint8_t *s, size_t len, const char *room_word, const char *report_word)
 {
     static uint64_t starts[MOST_PARAMS], lengths[MOST_PARAMS];
@@ -320,8 +304,8 @@ static void mend(const uint8_t *s, size_t len, const char *room_word, const char
     print_written(answer, second, room);
     if (answer >= 0)
         print_number(x[PTP_MENDED_STRETCHES]);
-    print_runs(starts, report);
-    print_runs(lengths, report);
+    print_runs(starts, sizeof *starts, report);
+    print_runs(lengths, sizeof *lengths, report);
 }
 
 static void container(const uint8_t *s, size_t len)

@@ -77,7 +77,7 @@ static void write_value(const char *code_word, const char *word, const char *roo
 static void write_string(const char *units_word, const char *room_word)
 {
     static uint16_t units[MOST_PARAMS];
-    size_t len = read_shorts(units_word, units), room = number_of(room_word);
+    size_t len = read_list(units_word, units, sizeof *units), room = number_of(room_word);
     memset(second, 0xA5, room);
     int64_t answer = ptp_write_text(units, len, second, room);
     if (answer >= 0 || ptp_refusal_number(answer) != PTP_TEXT) {

@@ -4,22 +4,27 @@
 
 #include "ptp.h"
 
+#include <ctype.h>
 #include <inttypes.h>
 #include <stdio.h>
 #include <stdlib.h>
 #include <string.h>
 
-enum { LONGEST = 1200000, MOST_PARAMS = 4096, MOST_WORDS = 7 };
+enum { LONGEST = 1200000, MOST_PARAMS = 4096, MOST_WORDS = 10 };
 
 static char line[LONGEST + 2];
 static uint8_t first[LONGEST], second[LONGEST]; /* the bytes of a question's last words */
 
+static unsigned digit_of(char digit)
+{
+    return (unsigned)(digit <= '9' ? digit - '0' : (digit | 0x20) - 'a' + 10);
+}
+
 static size_t read_bytes(const char *word, uint8_t *bytes)
 {
     size_t len = 0;
-    unsigned byte;
-    for (; sscanf(word, "%2x", &byte) == 1 && *word != '-'; word += 2)
-        bytes[len++] = (uint8_t)byte;
+    for (; isxdigit((unsigned char)word[0]) && isxdigit((unsigned char)word[1]); word += 2)
+        bytes[len++] = (uint8_t)(digit_of(word[0]) * 16 + digit_of(word[1]));
     return len;
 }
 
@@ -47,19 +52,50 @@ static uint16_t short_of(const char *word)
     return (uint16_t)long_of(word);
 }
 
-static size_t read_list(const char *word, uint32_t *list)
+/* Item n of a list whose items have 1, 2, 4 or 8 bytes each. */
+static uint64_t item_at(const void *list, size_t width, size_t n)
 {
-    size_t len = 0;
-    while (*word != '-' && *word)
-        list[len++] = (uint32_t)read_number(&word);
-    return len;
+    switch (width) {
+    case 1: return ((const uint8_t *)list)[n];
+    case 2: return ((const uint16_t *)list)[n];
+    case 4: return ((const uint32_t *)list)[n];
+    default: return ((const uint64_t *)list)[n];
+    }
 }
 
-static size_t read_shorts(const char *word, uint16_t *list)
+static void put_item(void *list, size_t width, size_t n, uint64_t item)
 {
-    size_t len = 0;
-    while (*word != '-' && *word)
-        list[len++] = (uint16_t)read_number(&word);
+    switch (width) {
+    case 1: ((uint8_t *)list)[n] = (uint8_t)item; break;
+    case 2: ((uint16_t *)list)[n] = (uint16_t)item; break;
+    case 4: ((uint32_t *)list)[n] = (uint32_t)item; break;
+    default: ((uint64_t *)list)[n] = item;
+    }
+}
+
+/* The next number of a list, and how many times it stands there: N, or N*TIMES. */
+static uint64_t read_run(const char **at, size_t *times)
+{
+    uint64_t number = read_number(at);
+    *times = 1;
+    if (**at == '*') {
+        ++*at;
+        *times = read_number(at);
+    }
+    return number;
+}
+
+/* How many items the list has. */
+static size_t read_list(const char *word, void *list, size_t width)
+{
+    size_t len = 0, times = 0;
+    uint64_t number = 0;
+    while (times > 0 || (*word != '-' && *word)) {
+        if (times == 0)
+            number = read_run(&word, &times);
+        put_item(list, width, len++, number);
+        times--;
+    }
     return len;
 }
 
@@ -160,6 +196,27 @@ static void print_value(const uint8_t *s, uint64_t start, uint64_t length, uint6
         print_units(s, start + 1, length > 1 ? (length - 3) / 2 : 0);
     else
         printf("undef");
+}
+
+/* How many items of a list, from item n on, are equal. */
+static size_t run_at(const void *list, size_t width, size_t n, size_t len)
+{
+    size_t end = n + 1;
+    while (end < len && item_at(list, width, end) == item_at(list, width, n))
+        end++;
+    return end - n;
+}
+
+/* A space and the list, equal neighbours as one, with their count. */
+static void print_runs(const void *list, size_t width, size_t len)
+{
+    fputs(len ? " " : " -", stdout);
+    for (size_t n = 0, times; n < len; n += times) {
+        times = run_at(list, width, n, len);
+        printf("%s%" PRIu64, n ? "," : "", item_at(list, width, n));
+        if (times > 1)
+            printf("*%zu", times);
+    }
 }
 
 /* A writer's answer, and the whole output. */

@@ -23,6 +23,7 @@ ADDED = {
     "panel": "D29",
     "settings": "D31", "settings-find": "D31", "settings-store": "D31",
     "mend": "D32",
+    "delete": "D33", "collect": "D33", "add": "D33",
     MALFORMED: "D15",
 }
 
@@ -126,12 +127,13 @@ def call(name, state, *words):
     return numbers(state, names.command_code(name))
 
 
-def on_tree(handles, parents, ends, names, *words):
-    if len(handles) > tree.MOST_OBJECTS:
+def on_tree(*words):
+    table = tree.Table(*words[:len(tree.Table._fields)])
+    if any(len(getattr(table, row)) != tree.PLACES for row in tree.LISTS):
         return "D10"
-    if len(names) > MOST_NAME_BYTES:
+    if len(table.names) > MOST_NAME_BYTES:
         return "D16"
-    return None if tree.has_rule(tree.Table(handles, parents, ends, names)) else "D11"
+    return None if tree.has_rule(table) else "D11"
 
 
 RULES = {

@@ -148,7 +148,10 @@ def copy_due(data):
 
 
 def mend_due(data):
+    """Where nothing is kept and something dropped the second file stays, and a sentence says so."""
     mended = mending.mend(data)
+    if mended.dropped and not mended.data:
+        return 1, BEFORE, mending.report(mended) + "ptp: nothing could be kept, and nothing was written\n"
     return 0, mended.data, mending.report(mended)
 
 

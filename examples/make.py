@@ -33,7 +33,7 @@ import sys
 from collections import namedtuple
 
 from model import listing, mending, names, settings
-from model.ask import show, show_entry
+from model.ask import show
 from model.values import Text
 
 FOLDER = pathlib.Path(__file__).resolve().parent
@@ -63,14 +63,14 @@ def array(text, width):
     return little(len(numbers), 4) + b"".join(little(number, width) for number in numbers)
 
 
-def units_shown(text):
-    units = text.encode("utf-16-le")
-    return show(Text(int.from_bytes(units[at:at + 2], "little") for at in range(0, len(units), 2)))
+def text_shown(text):
+    """In quotes; the examples' texts need no escapes."""
+    return f'"{text}"'
 
 
 # How a value that is one field is shown.
 FIELD_SHOWN = {
-    "string": units_shown,
+    "string": text_shown,
     "array16": lambda text: f"[{text}]",
     "array32": lambda text: f"[{text}]",
 }
@@ -161,7 +161,7 @@ def entry(kind, vendor, code, serial, value_type, words):
     """An entry, its serial as bytes and as it is shown."""
     numbers = int(vendor, 0), int(code, 0), int(value_type, 0)
     rest = little(numbers[0], 4) + little(numbers[1], 2) + serial[0] + little(numbers[2], 2) + fields(words)
-    text = f"{kind} {numbers[0]} {numbers[1]} {serial[1]} {numbers[2]} {value_shown(words)}"
+    text = f"{kind} {numbers[0]} 0x{numbers[1]:04x} {serial[1]} 0x{numbers[2]:04x} {value_shown(words)}"
     return Made(little(6 + len(rest), 4) + little(kind, 2) + rest, text, True, [])
 
 
@@ -170,7 +170,7 @@ def any_line(_, vendor, code, value_type, *words):
 
 
 def one_line(_, serial, vendor, code, value_type, *words):
-    return entry(settings.FOR_ONE, vendor, code, (string(serial), units_shown(serial)), value_type, words)
+    return entry(settings.FOR_ONE, vendor, code, (string(serial), text_shown(serial)), value_type, words)
 
 
 LINES = {"in": container_line, "out": container_line, "note": note_line, "raw": raw_line, "any": any_line, "one": one_line}
@@ -256,10 +256,14 @@ def shown_of(lines):
 
 
 def shown_by_model(row):
-    """The same from the bytes: of an entry's words all but its length."""
+    """The same from the bytes: texts in quotes, codes by four hexadecimal digits."""
+    def text(value):
+        return text_shown(b"".join(little(unit, 2) for unit in value).decode("utf-16-le")) if isinstance(value, Text) else show(value)
+
     entries = settings.read_row(2, row)
-    words = [[word for place, word in enumerate(show_entry(one)) if place != 1] for one in entries]
-    return SETTINGS_HEADING + "".join(" ".join(map(str, each)) + "\n" for each in words) + f"entries {len(entries)} bytes {len(row)}\n"
+    lines = [f"{one.start} {one.kind} {one.vendor} 0x{one.property:04x} {'-' if one.serial is None else text(Text(one.serial))} 0x{one.type:04x} {text(one.value)}\n"
+             for one in entries]
+    return SETTINGS_HEADING + "".join(lines) + f"entries {len(entries)} bytes {len(row)}\n"
 
 
 def row_outputs(name, lines):

@@ -1,8 +1,8 @@
-"""Judges a program that lists or mends recordings, by the model, on recordings of several windows and on input that comes in pieces.
+"""Judges a program that lists, copies or mends recordings, by the model, on recordings of several windows and on input that comes in pieces.
 
-    python3 -m examples.pieces [--mend] COMMAND ..
+    python3 -m examples.pieces [--copy | --mend] COMMAND ..
 
-COMMAND reads a recording from standard input and writes its listing; with --mend what is mended of it, and its report. It is given recordings that are longer than its
+COMMAND reads a recording from standard input and writes its listing; with --copy and --mend its copy, or what is mended of it, and the report. It is given recordings that are longer than its
 window, with records across the edge of what is read at once: as a file, and through a pipe in pieces of 1, 2, 3, 100
 and 65,535 bytes. Each piece is written once the program has taken the one before and waits for more. Each difference is
 printed, and last `COUNT compared, N differ`.
@@ -17,10 +17,11 @@ import tempfile
 import termios
 import time
 
+from examples.cuts import first_refusal
 from examples.judge import judged
 from examples.make import container_line, record
 from model import listing, mending
-from model.recording import MOST_BODY, NOTE, RECORD_HEADER
+from model.recording import MOST_BODY, NOTE, RECORD_HEADER, copied
 
 WINDOW = 65536
 LONGEST = RECORD_HEADER + MOST_BODY
@@ -132,6 +133,14 @@ def listing_due(data):
     return 0, listing.listing(data), ""
 
 
+def copying_due(data):
+    """What is refused has been copied up to the record that is refused."""
+    line = first_refusal(data)
+    made = copied(data[:int(line.split(" ")[0])])
+    is_whole = len(data) == int(line.split(" ")[0])
+    return 0, made.data.decode("latin-1"), f"left out {made.records} records {made.left} bytes\n" if is_whole else line
+
+
 def mending_due(data):
     mended = mending.mend(data)
     return 0, mended.data.decode("latin-1"), mending.report(mended)
@@ -154,8 +163,8 @@ def differences(command, due):
 
 def main():
     words = sys.argv[1:]
-    due = mending_due if words[:1] == ["--mend"] else listing_due
-    command = words[1:] if due is mending_due else words
+    due = {"--copy": copying_due, "--mend": mending_due}.get(words[0] if words else "", listing_due)
+    command = words if due is listing_due else words[1:]
     if not command:
         sys.exit(__doc__)
     return judged(differences(command, due))

@@ -76,13 +76,28 @@ def hex_bytes(word):
         raise Malformed from None
 
 
+def times(word):
+    count = u64(word)
+    if not 1 <= count <= LONGEST_LIST:
+        raise Malformed
+    return count
+
+
 def numbers(word, each):
+    """Numbers joined by commas, each alone or as N*TIMES."""
     if word == "-":
         return []
-    words = word.split(",")
-    if len(words) > LONGEST_LIST:
-        raise Malformed
-    return [each(one) for one in words]
+    row = []
+    for one in word.split(","):
+        number, star, count = one.partition("*")
+        row += [each(number)] * (times(count) if star else 1)
+        if len(row) > LONGEST_LIST:
+            raise Malformed
+    return row
+
+
+def u8s(word):
+    return numbers(word, u8)
 
 
 def u16s(word):
@@ -159,6 +174,11 @@ def show_bytes(data):
 
 def show_list(row):
     return ",".join(map(str, row)) or "-"
+
+
+def filled(row, bits):
+    """A lent list of 1,024 places after a call: what was written in front, the filling behind it."""
+    return show_runs(row + [int.from_bytes(bytes([FILLING]) * (bits // 8), "little")] * (tree.PLACES - len(row)))
 
 
 def show_runs(row):
@@ -359,7 +379,40 @@ def paths(*words):
         joined, ends = tree.paths(tree.Table(*table), size)
     except Refused as refused:
         return f"no {refused} {laid_out(size, b'')}"
-    return ok(len(joined), laid_out(size, joined), show_list(ends))
+    return ok(len(joined), laid_out(size, joined), filled(ends, 32))
+
+
+def delete(*words):
+    *table, place = words
+    table = tree.Table(*table)
+    try:
+        return ok(show_runs(tree.delete(table, place)))
+    except Refused as refused:
+        return f"no {refused} {show_runs(table.marks)}"
+
+
+def show_table(table, new_places):
+    """The lent lists of a table that was changed, the names' bytes, and the list of new places."""
+    return [*(show_runs(getattr(table, row)) for row in tree.LISTS), show_bytes(table.names), filled(new_places, 16)]
+
+
+def collect(*words):
+    table = tree.Table(*words)
+    try:
+        made = tree.collect(table)
+    except Refused as refused:
+        return " ".join([f"no {refused}", *show_table(table, [])])
+    return ok(made.table.count, *show_table(made.table, made.new_places))
+
+
+def add(*words):
+    *table, parent, handle, name = words
+    table = tree.Table(*table)
+    try:
+        made = tree.add(table, parent, handle, name)
+    except Refused as refused:
+        return " ".join([f"no {refused}", *show_table(table, [])])
+    return ok(made.place, *show_table(made.table, made.new_places))
 
 
 def show_entry(entry):
@@ -416,7 +469,7 @@ def whole_listing(data):
     return ok(listing.listing(data).replace("\n", "\\n"))
 
 
-TABLE_WORDS = (u32s, u16s, u32s, hex_bytes)
+TABLE_WORDS = (u32s, u16s, u32s, u8s, u64, hex_bytes)
 
 # Each question: how its words are read, and who answers it.
 QUESTIONS = {
@@ -460,6 +513,9 @@ QUESTIONS = {
     "walk": (TABLE_WORDS, walk),
     "path": ((*TABLE_WORDS, u64, room), path),
     "paths": ((*TABLE_WORDS, room), paths),
+    "delete": ((*TABLE_WORDS, u64), delete),
+    "collect": (TABLE_WORDS, collect),
+    "add": ((*TABLE_WORDS, u64, u32, hex_bytes), add),
     "settings": ((edition, hex_bytes), settings_row),
     "settings-find": ((edition, hex_bytes, u32, u16, u16s), settings_find),
     "settings-store": ((edition, hex_bytes, hex_bytes, room), settings_store),

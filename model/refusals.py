@@ -18,6 +18,7 @@ TYPE = 15      # another type than the description's, UNDEF, or a range of anyth
 VALUE = 16     # the description's form does not allow the value
 EDITION = 17   # an entry's kind is not one of the edition
 FULL = 18      # 256 entries with other keys are held
+TAKEN = 19     # 1,024 live objects are held
 
 
 class Refused(Exception):

@@ -13,10 +13,19 @@ def repeated(word, count):
     return ",".join([word] * count) or "-"
 
 
+def table(parents, ends, names, marks=None, count=None):
+    """The words of a table whose lists have 1,024 places: what is given, and behind it 0."""
+    used = len(parents.split(","))
+    rows = (",".join(map(str, range(1, used + 1))), parents, ends, marks or ",".join(["1"] * used))
+    return " ".join([row + (f",0*{1024 - used}" if used < 1024 else "") for row in rows] + [str(used if count is None else count), names])
+
+
 def flat_walk(count):
-    """A walk of so many objects below one root, with empty names."""
+    """A walk of so many objects below one root, with empty names, in lists of as many places or of 1,024."""
     places = ",".join(map(str, range(1, count + 1))) or "-"
-    return f"walk {places} {repeated('0', count)} {places} {'00' * count or '-'}"
+    if count > 1024:
+        return f"walk {places} 0*{count} {places} 1*{count} {count} {'00' * count}"
+    return f"walk {table(repeated('0', max(count, 1)), ','.join(map(str, range(1, max(count, 1) + 1))), '00' * max(count, 1), count=count)}"
 
 
 def kept(kind, rest, length=None):
@@ -45,7 +54,7 @@ ORDERS = {
         ("answer 7 0e000000020009100700000041420c000000", "no 1 18"),
         ("record 0b00000001000c00000003", "no 1 10"),
         ("write-record 1 0c00000003 0", "no 1 4 -"),
-        ("walk 1,2 0,0 1,6 000200d80000", "no 2 0"),
+        (f"walk {table('0,0', '1,6', '000200d80000')}", "no 2 0"),
         ("listing 070000000300410b00000001000c00000003",
          "ok place way kind code tid bytes\\n0 old-note 1\\n7 refusal 1 10\\nrecords 1 bytes 7\\n"),
         ("listing 07000000030041050000000300",
@@ -245,16 +254,56 @@ ORDERS = {
         ("answer 0 0c0000000300012000000000", "ok data 0 0 12"),
         ("answer 4294967295 0c00000003000120ffffffff", "ok data 0 0 12"),
     ],
-    "a tree: 11, each name's 1, 2, 3, then 12, 9": [
-        ("path 1,2 0,1 1,2 0002 9 0", "no 11"),
-        ("path 1,2 0,0 1,2 0002 9 0", "no 1 0"),
-        ("path 1,2 0,0 5,6 0200d8000002 9 0", "no 2 0"),
-        ("path 1,2 0,0 6,11 0041000000000200d80000 9 0", "no 3"),
-        ("path 1,2 0,0 1,6 000241000000 2 0", "no 12"),
-        ("path 1,2 0,0 1,6 000241000000 1 0", "no 9"),
-        ("paths 1,2 0,1 1,6 000241000000 0", "no 11"),
-        ("paths 1,2 0,0 1,2 0002 0", "no 1 0"),
-        ("paths 1,2 0,0 1,6 000241000000 0", "no 9"),
+    "a tree: 11, each name's 1, 2, 3, live or not, then 12, 9": [
+        (f"path {table('0,1', '1,2', '0002')} 9 0", "no 11"),
+        (f"path {table('0,0', '1,2', '0002')} 9 0", "no 1 0"),
+        (f"path {table('0,0', '5,6', '0200d8000002')} 9 0", "no 2 0"),
+        (f"path {table('0,0', '6,11', '0041000000000200d80000')} 9 0", "no 3"),
+        (f"path {table('0,0', '1,3', '000000', marks='1,0')} 9 0", "no 3"),
+        (f"path {table('0,0', '1,6', '000241000000')} 2 0", "no 12"),
+        (f"path {table('0,0', '1,6', '000241000000', marks='1,0')} 1 0", "no 12"),
+        (f"path {table('0,0', '1,6', '000241000000')} 1 0", "no 9"),
+        (f"paths {table('0,1', '1,6', '000241000000')} 0", "no 11"),
+        (f"paths {table('0,0', '1,2', '0002')} 0", "no 1 0"),
+        (f"paths {table('0,0', '1,6', '000241000000')} 0", "no 9"),
+        (f"paths {table('0,0', '1,6', '000241000000', marks='1,0')} 0", "ok 0 - 0,2779096485*1023"),
+    ],
+    "a table's rule: 1,024 places, the count, the root and each live object's parent live": [
+        ("walk 1 0 1 1 1 00", "no 11"),
+        ("walk 1*1025 0*1025 1*1025 1*1025 1 00", "no 11"),
+        (f"walk {table('0', '1', '00', count=0)}", "no 11"),
+        (f"walk {table('0', '1', '00', count=1025)}", "no 11"),
+        (f"walk {table('0', '1', '00', count=18446744073709551615)}", "no 11"),
+        (f"walk {table('0,0', '1,2', '0000', marks='0,1')}", "no 11"),
+        (f"walk {table('0,0', '1,2', '0000', marks='0,0')}", "no 11"),
+        (f"walk {table('0,0,1', '1,2,3', '000000', marks='1,0,1')}", "no 11"),
+        (f"walk {table('0,0,1', '1,2,3', '000000', marks='1,0,0')}", "ok 0"),
+        (f"walk {table('0,0,9', '1,2,3', '000000', marks='1,0,0')}", "no 11"),
+        (f"walk {table('0,0,9', '1,2,0', '0000', count=2)}", "ok 0,1"),
+        (f"walk {table('0,0', '1,2', '0000', marks='255,2')}", "ok 0,1"),
+    ],
+    "deleting: the table's own, then 12 for the root and what is not live": [
+        (f"delete {table('0,1', '1,2', '0000')} 0", "no 11 1*2,0*1022"),
+        (f"delete {table('0,0', '1,2', '0002')} 0", "no 1 0 1*2,0*1022"),
+        (f"delete {table('0,0', '1,2', '0000')} 0", "no 12 1*2,0*1022"),
+        (f"delete {table('0,0', '1,2', '0000')} 2", "no 12 1*2,0*1022"),
+        (f"delete {table('0,0', '1,2', '0000')} 18446744073709551615", "no 12 1*2,0*1022"),
+        (f"delete {table('0,0', '1,2', '0000', marks='1,0')} 1", "no 12 1,0*1023"),
+        (f"delete {table('0,0,1,0', '1,2,3,4', '00000000', marks='7,8,9,6')} 1", "ok 7,0*2,6,0*1020"),
+    ],
+    "adding: the table's own, 12, the name's 1, 2, 3, 19, 9": [
+        (f"add {table('0,1', '1,2', '0000')} 9 1 02", "no 11"),
+        (f"add {table('0,0', '1,2', '0000')} 2 1 02", "no 12"),
+        (f"add {table('0,0', '1,2', '0000', marks='1,0')} 1 1 02", "no 12"),
+        (f"add {table('0,0', '1,2', '0000')} 1 1 -", "no 1 0"),
+        (f"add {table('0,0', '1,2', '0000')} 1 1 0200d80000", "no 2 0"),
+        (f"add {table('0,0', '1,2', '0000')} 1 1 0000", "no 3"),
+        (f"add {table('0,0', '1,2', '0000')} 1 1 00", "no 9"),
+        (f"add {table('0,0', '1,2', '0000', marks='1,0')} 0 1 00", "ok 1"),
+        (f"add {table(repeated('0', 1024), ','.join(map(str, range(1, 1025))), '00' * 1024)} 0 1 0000", "no 3"),
+        (f"add {table(repeated('0', 1024), ','.join(map(str, range(1, 1025))), '00' * 1024)} 0 1 00", "no 19"),
+        (f"add {table(repeated('0', 1024), ','.join(map(str, range(1, 1025))), '00' * 1024, marks=repeated('1', 1023) + ',0')} 0 1 0241000000", "no 9"),
+        (f"add {table(repeated('0', 1024), ','.join(map(str, range(1, 1025))), '00' * 1024, marks=repeated('1', 1023) + ',0')} 0 1 00", "ok 1023"),
     ],
     "1 and 1,024 objects, 0 and 1,025": [
         (flat_walk(0), "no 11"),
@@ -263,8 +312,8 @@ ORDERS = {
         (flat_walk(1025), "no 11"),
     ],
     "a slash only after a path that is not empty": [
-        ("path 1,2,3 0,0,1 1,2,7 00000241000000 2 1", "ok 1 41"),
-        ("path 1,2,3 0,0,1 5,6,11 0242000000000241000000 2 4", "ok 4 422f2f41"),
+        (f"path {table('0,0,1', '1,2,7', '00000241000000')} 2 1", "ok 1 41"),
+        (f"path {table('0,0,1', '5,6,11', '0242000000000241000000')} 2 4", "ok 4 422f2f41"),
     ],
     "an entry: 1 for six bytes, 17, 13, 1 for the rest": [
         ("settings 2 0500", "no 1 0"),

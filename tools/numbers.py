@@ -2,8 +2,9 @@
 
 Compared, name by name and number by number: the codes of responses and commands with the name tables of `names`; the refusals with the Refusals.antt
 of the crates that give them; the type codes with those that `wire` tells apart, which alone says which of 9 and 10 is signed; the kinds of
-containers with their words in the listing; the handles that are none with those of `session`; the numbers of an answer, in their order, with the row
-of `abi` that gives them. Each name of an answer's number is used in c/replay.c and what it includes, as its head says."""
+containers with their words in the listing; the handles that are none with those of `session`; how many places a list of objects has, and the new
+place that is none, with those of `tree` and `shots`; the numbers of an answer, in their order, with the row of `abi` that gives them. Each name of
+an answer's number is used in c/replay.c and what it includes, as its head says."""
 import re
 
 from tools.read import parts, sources, text
@@ -67,7 +68,7 @@ def code_faults(header):
 # ---- refusals, type codes and kinds
 
 def refusal_faults(header):
-    judged = numbered(pair for crate in ('layout', 'panel', 'settings')
+    judged = numbered(pair for crate in ('layout', 'panel', 'settings', 'shots')
                       for pair in re.findall(r'^([A-Z]+) = (\d+)$', text('crates', crate, 'specs', 'Refusals.antt'), re.M))
     yield from compared('c/ptp.h', enum(header, 'ptp_refusal', 'PTP_'), judged)
     rust = text('rust', 'src', 'refusal.rs')
@@ -106,6 +107,14 @@ def handle_faults(header):
                          for name in ('roots', 'everywhere'))
     found = numbered(re.findall(r'#define PTP_HANDLE_(\w+) UINT32_C\((\w+)\)', header))
     yield from compared('c/ptp.h', found, numbered([('ROOTS', roots), ('ALL', everywhere)]))
+
+
+def place_faults(header):
+    places = re.search(r'^listsOk .*? = eqb \(length hs\) (\d+)', text('crates', 'tree', 'specs', 'Table.antt'), re.M).group(1)
+    gone = re.search(r'^GONE = (\d+)$', text('crates', 'shots', 'specs', 'Collected.antt'), re.M).group(1)
+    judged = numbered([('PLACES', places), ('GONE', gone)])
+    yield from compared('c/ptp.h', numbered(re.findall(r'PTP_(PLACES|GONE) = (\d+)', header)), judged)
+    yield from compared('rust/src/tree.rs', numbered(re.findall(r'pub const (PLACES|GONE): \w+ = (\w+);', text('rust', 'src', 'tree.rs'))), judged)
 
 
 # ---- the numbers of an answer
@@ -156,5 +165,5 @@ def unused(header):
 
 
 def faults(header):
-    for each in (code_faults, refusal_faults, type_faults, kind_faults, handle_faults, row_faults, unused):
+    for each in (code_faults, refusal_faults, type_faults, kind_faults, handle_faults, place_faults, row_faults, unused):
         yield from each(header)

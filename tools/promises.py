@@ -1,10 +1,10 @@
 """The last column of docs/PROMISES.md, made from the edits of wrong/ (tools/edits.py).
 
     python3 -m tools.promises            writes the column
-    python3 -m tools.promises --check    writes nothing, and fails where it is another; where a public function of a library crate has no row, or a
-                                         row no function; where an edit stands in no row or an edit of the gate in no section; where what an edit
-                                         is to change does not stand in its file exactly once. Tells which rows have fewer than two edits.
-                                         A crate that the page names as `CRATE::*` has no rows
+    python3 -m tools.promises --check    writes nothing, and fails where it is another; where a public function has no `ensures`, in a library or a
+                                         program; where one of a library has no row, or a row no function; where an edit stands in no row or an
+                                         edit of the gate in no section; where what an edit is to change does not stand in its file exactly once.
+                                         Tells which rows have fewer than two edits.
 """
 import collections
 import os
@@ -17,18 +17,23 @@ PAGE = os.path.join(edits.ROOT, 'docs', 'PROMISES.md')
 FEW = 2
 
 
-def libraries():
-    """The library crates, in the order of crates.txt."""
+def crates():
+    """All crates, in the order of crates.txt."""
     names = [line.split('#')[0].split(':')[0].strip() for line in edits.read(os.path.join(edits.ROOT, 'crates.txt')).splitlines()]
-    return [name for name in names if name and os.path.exists(os.path.join(edits.ROOT, 'crates', name, 'src', 'lib.rt'))]
+    return [name for name in names if name]
 
 
-def functions(crate):
-    """The crate's public functions; a method by its type: wire::Cursor::u8."""
+def libraries():
+    """Those that are no programs."""
+    return [name for name in crates() if os.path.exists(os.path.join(edits.ROOT, 'crates', name, 'src', 'lib.rt'))]
+
+
+def heads(crate):
+    """The crate's public functions, a method by its type: wire::Cursor::u8; and of each the lines up to its body."""
     folder = os.path.join(edits.ROOT, 'crates', crate, 'src')
     for file in sorted(os.listdir(folder)):
-        owner = ''
-        for line in edits.read(os.path.join(folder, file)).splitlines():
+        owner, lines = '', edits.read(os.path.join(folder, file)).splitlines()
+        for at, line in enumerate(lines):
             begins = re.match(r'impl (\w+)', line)
             if begins:
                 owner = begins.group(1) + '::'
@@ -36,7 +41,18 @@ def functions(crate):
                 owner = ''
             named = re.match(r'\s*pub (?:extern "C" )?fn (\w+)', line)
             if named:
-                yield '%s::%s%s' % (crate, owner, named.group(1))
+                end = next(i for i in range(at, len(lines)) if lines[i].endswith('{'))
+                yield '%s::%s%s' % (crate, owner, named.group(1)), lines[at:end + 1]
+
+
+def functions(crate):
+    return (name for name, _ in heads(crate))
+
+
+def silent():
+    """The public functions that promise nothing, of programs too."""
+    for crate in crates():
+        yield from (name for name, head in heads(crate) if not any(re.match(r'\s*ensures\b', line) for line in head))
 
 
 def function_of(line):
@@ -107,13 +123,13 @@ def main(words):
     if words not in ([], ['--check']):
         sys.exit(__doc__)
     page = edits.read(PAGE)
-    rowless = set(re.findall(r'`(\w+)::\*`', page))
-    public = {name for crate in libraries() if crate not in rowless for name in functions(crate)}
+    public = {name for crate in libraries() for name in functions(crate)}
     rows = [function for function in map(function_of, page.splitlines()) if function]
     try:
         tried, faults = edits_by_function(public)
     except edits.BadEdit as fault:
         sys.exit('promises: %s' % fault)
+    faults += ['no `ensures`: ' + name for name in silent()]
     faults += faults_of_rows(rows, public, tried)
     made = with_column(page, tried)
     if words and made != page:

@@ -24,8 +24,11 @@ mod archive {
                               room: usize) -> u64;
         pub fn ptp_find_answer(s: *const u8, len: usize, number: u32, out: *mut u64, room: usize) -> u64;
         pub fn ptp_paths(handles: *const u32, handle_count: usize, parents: *const u16, parent_count: usize,
-                     ends: *const u32, end_count: usize, names: *const u8, len: usize, out: *mut u8, room: usize,
-                     out_ends: *mut u32, out_count: usize) -> u64;
+                     ends: *const u32, end_count: usize, marks: *const u8, mark_count: usize, count: usize, names: *const u8, len: usize,
+                     out: *mut u8, room: usize, out_ends: *mut u32, out_count: usize) -> u64;
+        pub fn ptp_table_collect(handles: *mut u32, handle_count: usize, parents: *mut u16, parent_count: usize,
+                             ends: *mut u32, end_count: usize, marks: *mut u8, mark_count: usize, count: usize, names: *mut u8, len: usize,
+                             new_places: *mut u16, place_count: usize) -> u64;
         pub fn ptp_text(s: *const u8, len: usize, at: usize, out: *mut u64, room: usize) -> u64;
         pub fn ptp_utf8_len(s: *const u8, len: usize, at: usize, out: *mut u64, room: usize) -> u64;
         pub fn ptp_utf8(s: *const u8, len: usize, at: usize, out: *mut u8, room: usize) -> u64;
@@ -130,8 +133,16 @@ mod archive {
     pub fn paths(table: &Table, out: &mut [u8], ends: &mut [u32]) -> u64 {
         unsafe {
             ptp_paths(table.handles.as_ptr(), table.handles.len(), table.parents.as_ptr(), table.parents.len(),
-                      table.ends.as_ptr(), table.ends.len(), table.names.as_ptr(), table.names.len(),
-                      out.as_mut_ptr(), out.len(), ends.as_mut_ptr(), ends.len())
+                      table.ends.as_ptr(), table.ends.len(), table.marks.as_ptr(), table.marks.len(), table.handles.len(),
+                      table.names.as_ptr(), table.names.len(), out.as_mut_ptr(), out.len(), ends.as_mut_ptr(), ends.len())
+        }
+    }
+
+    pub fn collect(table: &mut Table, new_places: &mut [u16]) -> u64 {
+        unsafe {
+            ptp_table_collect(table.handles.as_mut_ptr(), table.handles.len(), table.parents.as_mut_ptr(), table.parents.len(),
+                              table.ends.as_mut_ptr(), table.ends.len(), table.marks.as_mut_ptr(), table.marks.len(), table.handles.len(),
+                              table.names.as_mut_ptr(), table.names.len(), new_places.as_mut_ptr(), new_places.len())
         }
     }
 

@@ -15,6 +15,7 @@ fn main() {
     texts::night();
     containers::containers();
     trees::trees();
+    trees::collecting();
     names::names();
     values::values();
     settings::settings();

@@ -1,5 +1,6 @@
 
-// Trees. Theirs begins with the nested tree, its names strings already; ours with the table, whose rule and names it checks.
+// Trees. Theirs begins with the nested tree, its names strings already; ours with the table, whose rule and names it checks. Theirs has nothing
+// like collecting.
 
 mod trees {
     use super::*;
@@ -10,21 +11,25 @@ mod trees {
 
     const OBJECTS: usize = 1024;
 
+    /// All its places are used.
+    #[derive(Clone)]
     pub struct Table {
         pub handles: Vec<u32>,
         pub parents: Vec<u16>,
         pub ends: Vec<u32>,
+        pub marks: Vec<u8>,
         pub names: Vec<u8>,
         pub texts: Vec<String>,
     }
 
     fn table(objects: &[(usize, String)]) -> Table {
-        let mut table = Table { handles: vec![], parents: vec![], ends: vec![], names: vec![], texts: vec![] };
+        let mut table = Table { handles: vec![], parents: vec![], ends: vec![], marks: vec![], names: vec![], texts: vec![] };
         for (place, &(parent, ref name)) in objects.iter().enumerate() {
             table.handles.push(place as u32);
             table.parents.push(parent as u16);
             table.names.extend(string(name));
             table.ends.push(table.names.len() as u32);
+            table.marks.push(1);
             table.texts.push(name.clone());
         }
         table
@@ -86,5 +91,36 @@ mod trees {
                  side(|| { black_box(paths(black_box(table), &mut out, &mut ends)); }),
                  Some(side(|| { black_box(black_box(&tree).walk().len()); })));
         }
+    }
+
+    /// One folder, in which every second frame was deleted.
+    fn half_deleted() -> Table {
+        let mut table = flat();
+        for (place, mark) in table.marks.iter_mut().enumerate() {
+            *mark = (place % 2 == 0) as u8;
+        }
+        table
+    }
+
+    fn copy_lists(from: &Table, to: &mut Table) {
+        to.handles.copy_from_slice(&from.handles);
+        to.parents.copy_from_slice(&from.parents);
+        to.ends.copy_from_slice(&from.ends);
+        to.marks.copy_from_slice(&from.marks);
+        to.names.copy_from_slice(&from.names);
+    }
+
+    /// What is collected is laid out anew each time, which is not timed.
+    pub fn collecting() {
+        let before = half_deleted();
+        let mut table = before.clone();
+        let mut new_places = vec![0u16; OBJECTS];
+        assert_eq!(accepted(collect(&mut table, &mut new_places)), OBJECTS / 2);
+        assert!(new_places.iter().enumerate().all(|(place, &new)| new as usize == if place % 2 == 0 { place / 2 } else { 65535 }));
+        let collected = Box::new(move |times| (0..times).map(|_| {
+            copy_lists(&before, &mut table);
+            timed(1, || { black_box(collect(black_box(&mut table), &mut new_places)); })
+        }).sum());
+        line("1,024 objects collected, every second not live", 1, collected, None);
     }
 }

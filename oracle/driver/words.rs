@@ -32,9 +32,16 @@ mod words {
         pub fn list(&self, place: usize) -> Vec<u32> {
             match self.0[place] {
                 "-" => vec![],
-                joined => joined.split(',').map(|one| number(one) as u32).collect(),
+                joined => joined.split(',').flat_map(run).collect(),
             }
         }
+    }
+
+    /// A number alone, or N*TIMES.
+    fn run(word: &str) -> Vec<u32> {
+        let mut parts = word.split('*');
+        let one = number(parts.next().expect("a number")) as u32;
+        vec![one; parts.next().map_or(1, |times| number(times) as usize)]
     }
 
     fn digit(c: u8) -> u8 {

@@ -153,22 +153,17 @@ impl Controller<'_, '_> {
         let payload = self.ask(&|session, out| session.get_objecthandles_root(storage, None, out))?;
         let handles = object_handles(&payload)?;
         // the storage itself is the root, and has no name
-        let mut name = [0; 511];
-        let mut names = write_text(&[], &mut name)?.to_vec();
-        let (mut all, mut parents, mut ends) = (vec![0], vec![0], vec![names.len() as u32]);
+        let (mut name, mut names) = ([0; 511], vec![0; 511 * (handles.len() + 1)]);
+        let mut objects = Objects::new(0, write_text(&[], &mut name)?, &mut names)?;
         for handle in &handles {
             let payload = self.ask(&|session, out| session.get_objectinfo(handle, out))?;
             let (info, _) = PtpObjectInfo::decode(&payload)?;
             println!("object {handle} {:>14} {} bytes", info.Filename, info.ObjectCompressedSize);
-            let parent = all.iter().position(|&other| other == info.ParentObject).ok_or(Fault::Unexpected)?;
-            names.extend_from_slice(PtpDataType::STR(info.Filename).encode(&mut name)?);
-            all.push(handle);
-            parents.push(parent as u16);
-            ends.push(names.len() as u32);
+            let parent = objects.find(info.ParentObject).ok_or(Fault::Unexpected)?;
+            objects.add(parent, handle, PtpDataType::STR(info.Filename).encode(&mut name)?)?;
         }
-        let table = ObjectTable { handles: &all, parents: &parents, ends: &ends, names: &names };
-        let (mut paths, mut path_ends) = (vec![0; 4096], vec![0; all.len()]);
-        for path in table.paths(&mut paths, &mut path_ends)?.iter() {
+        let (mut paths, mut path_ends) = (vec![0; 4096], [0; ObjectTable::PLACES]);
+        for path in objects.table().paths(&mut paths, &mut path_ends)? {
             println!("path /{path}");
         }
         handles.get(1).ok_or(Fault::Unexpected)

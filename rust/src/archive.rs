@@ -7,6 +7,7 @@
 //! - What is lent for writing is lent by `&mut`, so it overlaps nothing else that is lent.
 //! - All numbers are plain: every bit pattern that comes back is one that its type has.
 #![allow(unsafe_code)]
+use crate::changes::ObjectTableMut;
 use crate::refusal::Refusal;
 use crate::tree::ObjectTable;
 
@@ -78,6 +79,9 @@ extern "C" {
         parents_len: usize,
         ends: *const u32,
         ends_len: usize,
+        marks: *const u8,
+        marks_len: usize,
+        count: usize,
         names: *const u8,
         names_len: usize,
         place: usize,
@@ -163,6 +167,9 @@ extern "C" {
         parents_len: usize,
         ends: *const u32,
         ends_len: usize,
+        marks: *const u8,
+        marks_len: usize,
+        count: usize,
         names: *const u8,
         names_len: usize,
         places: *mut u16,
@@ -175,12 +182,63 @@ extern "C" {
         parents_len: usize,
         ends: *const u32,
         ends_len: usize,
+        marks: *const u8,
+        marks_len: usize,
+        count: usize,
         names: *const u8,
         names_len: usize,
         out: *mut u8,
         out_len: usize,
         out_ends: *mut u32,
         out_ends_len: usize,
+    ) -> i64;
+    fn ptp_table_delete(
+        handles: *const u32,
+        handles_len: usize,
+        parents: *const u16,
+        parents_len: usize,
+        ends: *const u32,
+        ends_len: usize,
+        marks: *mut u8,
+        marks_len: usize,
+        count: usize,
+        names: *const u8,
+        names_len: usize,
+        place: usize,
+    ) -> i64;
+    fn ptp_table_collect(
+        handles: *mut u32,
+        handles_len: usize,
+        parents: *mut u16,
+        parents_len: usize,
+        ends: *mut u32,
+        ends_len: usize,
+        marks: *mut u8,
+        marks_len: usize,
+        count: usize,
+        names: *mut u8,
+        names_len: usize,
+        new_places: *mut u16,
+        new_places_len: usize,
+    ) -> i64;
+    fn ptp_table_add(
+        handles: *mut u32,
+        handles_len: usize,
+        parents: *mut u16,
+        parents_len: usize,
+        ends: *mut u32,
+        ends_len: usize,
+        marks: *mut u8,
+        marks_len: usize,
+        count: usize,
+        names: *mut u8,
+        names_len: usize,
+        new_places: *mut u16,
+        new_places_len: usize,
+        parent: usize,
+        handle: u32,
+        name: *const u8,
+        name_len: usize,
     ) -> i64;
 }
 
@@ -191,7 +249,7 @@ fn told(answer: i64) -> Result<usize, Refusal> {
         return Ok(answer as usize);
     }
     let refusal = answer.unsigned_abs();
-    Err(Refusal::from_number(refusal % 256, (refusal / 256) as usize).expect("the archive refuses by 1 to 18"))
+    Err(Refusal::from_number(refusal % 256, (refusal / 256) as usize).expect("the archive refuses by 1 to 19"))
 }
 
 // The farthest place that the archive tells. Only one that the caller gave can be as far, where nothing can be read: then the refusal is of it.
@@ -521,27 +579,71 @@ pub(crate) fn settings_store(second: bool, row: &[u8], entry: &[u8], out: &mut [
     told(unsafe { ptp_settings_store(second, row.as_ptr(), row.len(), entry.as_ptr(), entry.len(), out.as_mut_ptr(), out.len()) })
 }
 
-// A function of an object table, whose four slices come first, with what else it takes.
+// A function of an object table, whose four lists, count and names come first, with what else it takes. The lists and names are lent by
+// `$pointer`: a pointer for writing is taken where one for reading is asked for.
 macro_rules! of_table {
-    ($function:ident, $table:expr, $($more:expr),+) => {{
-        let ObjectTable { handles, parents, ends, names } = *$table;
-        let (handles, handles_len) = (handles.as_ptr(), handles.len());
-        let (parents, parents_len) = (parents.as_ptr(), parents.len());
-        let (ends, ends_len) = (ends.as_ptr(), ends.len());
-        told(unsafe { $function(handles, handles_len, parents, parents_len, ends, ends_len, names.as_ptr(), names.len(), $($more),+) })
-    }};
+    ($function:ident, $table:ident, $pointer:ident, $count:expr, $($more:expr),+) => {
+        told(unsafe {
+            $function(
+                $table.handles.$pointer(),
+                $table.handles.len(),
+                $table.parents.$pointer(),
+                $table.parents.len(),
+                $table.ends.$pointer(),
+                $table.ends.len(),
+                $table.marks.$pointer(),
+                $table.marks.len(),
+                $count,
+                $table.names.$pointer(),
+                $table.names.len(),
+                $($more),+
+            )
+        })
+    };
 }
 
 pub(crate) fn walk(table: &ObjectTable<'_>, places: &mut [u16]) -> Result<usize, Refusal> {
-    of_table!(ptp_walk, table, places.as_mut_ptr(), places.len())
+    of_table!(ptp_walk, table, as_ptr, table.count, places.as_mut_ptr(), places.len())
 }
 
 pub(crate) fn path(table: &ObjectTable<'_>, place: usize, out: &mut [u8]) -> Result<usize, Refusal> {
-    of_table!(ptp_path, table, place, out.as_mut_ptr(), out.len())
+    of_table!(ptp_path, table, as_ptr, table.count, place, out.as_mut_ptr(), out.len())
 }
 
 pub(crate) fn paths(table: &ObjectTable<'_>, out: &mut [u8], out_ends: &mut [u32]) -> Result<usize, Refusal> {
-    of_table!(ptp_paths, table, out.as_mut_ptr(), out.len(), out_ends.as_mut_ptr(), out_ends.len())
+    of_table!(ptp_paths, table, as_ptr, table.count, out.as_mut_ptr(), out.len(), out_ends.as_mut_ptr(), out_ends.len())
+}
+
+/// The count, which stays.
+pub(crate) fn table_delete(table: &mut ObjectTableMut<'_>, place: usize) -> Result<usize, Refusal> {
+    of_table!(ptp_table_delete, table, as_mut_ptr, *table.count, place)
+}
+
+/// The new count.
+pub(crate) fn table_collect(table: &mut ObjectTableMut<'_>, new_places: &mut [u16]) -> Result<usize, Refusal> {
+    of_table!(ptp_table_collect, table, as_mut_ptr, *table.count, new_places.as_mut_ptr(), new_places.len())
+}
+
+/// The object's place.
+pub(crate) fn table_add(
+    table: &mut ObjectTableMut<'_>,
+    new_places: &mut [u16],
+    parent: usize,
+    handle: u32,
+    name: &[u8],
+) -> Result<usize, Refusal> {
+    of_table!(
+        ptp_table_add,
+        table,
+        as_mut_ptr,
+        *table.count,
+        new_places.as_mut_ptr(),
+        new_places.len(),
+        parent,
+        handle,
+        name.as_ptr(),
+        name.len()
+    )
 }
 
 #[cfg(test)]

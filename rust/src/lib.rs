@@ -17,10 +17,12 @@ extern crate alloc;
 
 mod archive;
 mod array;
+mod changes;
 mod code;
 mod dataset;
 mod listing;
 mod mending;
+mod objects;
 mod pad;
 mod payload;
 mod property;
@@ -35,10 +37,12 @@ mod value;
 mod writer;
 
 pub use array::{Items, PtpArray, PtpItem};
+pub use changes::{Added, ObjectTableMut};
 pub use code::{CommandCode, ResponseCode, StandardCommandCode, StandardResponseCode};
 pub use dataset::{PtpDeviceInfo, PtpObjectInfo, PtpStorageInfo};
 pub use listing::{list_recording, list_window, write_ending, write_heading, Listed, Tally};
 pub use mending::{mend_recording, Dropped, Mended};
+pub use objects::Objects;
 pub use payload::{object_count, object_handles, storage_ids, storage_info};
 pub use property::{newer_value, tidy_property, Newer, PropLayout, PtpFormData, PtpPropInfo, PtpValues, Values};
 pub use reader::{item, unit, PtpReader};

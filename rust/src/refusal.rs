@@ -2,7 +2,7 @@
 use crate::pad::padded;
 use core::fmt;
 
-/// The eighteen refusals. Where several conditions hold, a call gives the first in its own order.
+/// The nineteen refusals. Where several conditions hold, a call gives the first in its own order.
 ///
 /// What could not be read is told with `at`, the place of the first byte of the field that failed: an array's count, a string's count byte,
 /// a list's failing value. It counts in the bytes that were lent; of an object's name in that name.
@@ -44,7 +44,8 @@ pub enum Refusal {
     COUNT,
     /// the object table breaks its rule
     TABLE,
-    /// an index that does not exist, or a type code that is no array's where one is asked for
+    /// an index that does not exist, an object that is not live, the root where one is deleted, or a type code that is no array's where one is
+    /// asked for
     PLACE,
     /// a record's length is below 6, or its kind not 1 to 3, of one to be written not 1 or 2; a setting's length is below 6, it is untidy, or its key stood before
     RECORD,
@@ -58,16 +59,18 @@ pub enum Refusal {
     EDITION,
     /// 256 settings with other keys are held
     FULL,
+    /// 1,024 live objects are held
+    TAKEN,
 }
 
 use Refusal::*;
 
 // Those without a place, from 3 on.
-const PLAIN: [Refusal; 16] =
-    [TRAIL, KIND, LENGTH, SIZE, TID, NOPHASE, ROOM, COUNT, TABLE, PLACE, RECORD, LONG, TYPE, VALUE, EDITION, FULL];
+const PLAIN: [Refusal; 17] =
+    [TRAIL, KIND, LENGTH, SIZE, TID, NOPHASE, ROOM, COUNT, TABLE, PLACE, RECORD, LONG, TYPE, VALUE, EDITION, FULL, TAKEN];
 
 impl Refusal {
-    /// Its number, 1 to 18.
+    /// Its number, 1 to 19.
     pub fn number(self) -> u8 {
         match self {
             END { .. } => 1,
@@ -98,13 +101,14 @@ impl Refusal {
             ROOM => "the output is too short",
             COUNT => "there are too many units, parameters, items or payload bytes, or no whole items",
             TABLE => "the object table breaks its rule",
-            PLACE => "there is no such index, or the type is no array's",
+            PLACE => "there is no such index or live object, or the type is no array's",
             RECORD => "a record or setting is none",
             LONG => "a record's body is over 65,000 bytes",
             TYPE => "the type is another than the description's, or none that can be set",
             VALUE => "the description does not allow the value",
             EDITION => "a setting's kind is not one of the edition",
             FULL => "256 settings with other keys are held",
+            TAKEN => "1,024 live objects are held",
         }
     }
 

@@ -2,14 +2,21 @@
 use crate::archive;
 use crate::refusal::Refusal;
 
-/// One to 1,024 objects, an entry an object: handles, parents' places, and names end to end with the end of each.
+/// One to 1,024 objects in lists that are lent: handles, parents' places, live marks, and names end to end with the end of each.
 ///
-/// Place 0 is the root, with parent entry 0; every other parent entry is smaller than its own place. Each name is wholly one string.
+/// Each list has 1,024 places, and `count` says how many are used; the others are not looked at. Place 0 is the root, with parent entry 0;
+/// every other parent entry is smaller than its own place. The root is live, and so is the parent of each live object. Each name is wholly
+/// one string, also that of an object that is not live. [`Objects`](crate::Objects) makes and keeps such lists.
 ///
 /// ```
 /// use ptp_proved::ObjectTable;
 /// // a root without a name, in it A, in that B
-/// let table = ObjectTable { handles: &[1, 2, 3], parents: &[0, 0, 1], ends: &[1, 6, 11], names: b"\0\x02A\0\0\0\x02B\0\0\0" };
+/// let (mut parents, mut ends, mut marks) = ([0; 1024], [0; 1024], [0; 1024]);
+/// parents[2] = 1;
+/// ends[..3].copy_from_slice(&[1, 6, 11]);
+/// marks[..3].fill(1);
+/// let names = b"\0\x02A\0\0\0\x02B\0\0\0";
+/// let table = ObjectTable { handles: &[7; 1024], parents: &parents, ends: &ends, marks: &marks, count: 3, names };
 /// assert_eq!(table.path(2, &mut [0; 16])?, "A/B");
 /// assert_eq!(table.walk(&mut [0; 3])?, [0, 1, 2]);
 /// # Ok::<(), ptp_proved::Refusal>(())
@@ -22,41 +29,58 @@ pub struct ObjectTable<'a> {
     pub parents: &'a [u16],
     /// where each name ends in `names`
     pub ends: &'a [u32],
-    /// the names, end to end, each a string
+    /// 0 for an object that is not live
+    pub marks: &'a [u8],
+    /// how many places are used
+    pub count: usize,
+    /// the names, end to end, each a string; bytes may follow the last
     pub names: &'a [u8],
 }
 
 impl ObjectTable<'_> {
-    /// The places in walk order: by depth, then by the places from the root down. It needs room for as many as there are objects.
-    /// Refusals: TABLE; then name by name END, TEXT, TRAIL; then ROOM.
+    /// How many places each list has.
+    pub const PLACES: usize = 1024;
+
+    /// The new place of an object that has none, since it was not live.
+    pub const GONE: u16 = 65_535;
+
+    /// The places of the live objects in walk order: by depth, then by the places from the root down. It needs room for as many as there
+    /// are. Refusals: TABLE; then name by name END, TEXT, TRAIL; then ROOM.
     pub fn walk<'o>(&self, places: &'o mut [u16]) -> Result<&'o [u16], Refusal> {
         let count = archive::walk(self, places)?;
         Ok(&places[..count])
     }
 
-    /// The path of one place. It checks the whole table: for all paths ask [`paths`](Self::paths). Refusals: those of the walk; PLACE; ROOM.
+    /// The path of one place. It checks the whole table: for all paths ask [`paths`](Self::paths). Refusals: those of the walk but ROOM; PLACE
+    /// where no live object stands; ROOM.
     pub fn path<'o>(&self, place: usize, out: &'o mut [u8]) -> Result<&'o str, Refusal> {
         let count = archive::path(self, place, out)?;
         Ok(core::str::from_utf8(&out[..count]).expect("a path is UTF-8"))
     }
 
-    /// All paths in walk order, end to end, and the end of each. Refusals: those of the walk, then ROOM for either output.
+    /// The paths of all live objects in walk order, end to end, and the end of each. Refusals: those of the walk, then ROOM for either output.
     ///
-    /// It is refused for ROOM only after the walk. The exact need can be known before: an end for each object; the root's path is as long as
-    /// its name by [`utf8_len`](crate::utf8_len), any other as its parent's, a slash where that is not empty, and its name.
+    /// It is refused for ROOM only after the walk. The exact need can be known before: an end for each live object; the root's path is as long
+    /// as its name by [`utf8_len`](crate::utf8_len), any other as its parent's, a slash where that is not empty, and its name.
     pub fn paths<'o>(&self, out: &'o mut [u8], out_ends: &'o mut [u32]) -> Result<Paths<'o>, Refusal> {
         let count = archive::paths(self, out, out_ends)?;
-        Ok(Paths { bytes: &out[..count], ends: &out_ends[..self.handles.len()] })
+        Ok(Paths { bytes: &out[..count], ends: &out_ends[..self.live_count()] })
+    }
+
+    // Of the places that are used.
+    pub(crate) fn live_count(&self) -> usize {
+        self.marks[..self.count].iter().filter(|&&mark| mark != 0).count()
     }
 }
 
 /// The paths of an object table, in walk order.
 ///
 /// ```
-/// use ptp_proved::ObjectTable;
-/// let table = ObjectTable { handles: &[1, 2], parents: &[0, 0], ends: &[1, 6], names: b"\0\x02A\0\0\0" };
-/// let (mut out, mut ends) = ([0; 16], [0; 2]);
-/// let paths = table.paths(&mut out, &mut ends)?;
+/// use ptp_proved::Objects;
+/// let (mut names, mut out, mut ends) = ([0; 6], [0; 16], [0; 2]);
+/// let mut objects = Objects::new(1, &[0], &mut names)?;
+/// objects.add(0, 2, b"\x02A\0\0\0")?;
+/// let paths = objects.table().paths(&mut out, &mut ends)?;
 /// assert_eq!((paths.len(), paths.get(1), paths.get(2)), (2, Some("A"), None));
 /// # Ok::<(), ptp_proved::Refusal>(())
 /// ```
@@ -67,7 +91,7 @@ pub struct Paths<'o> {
 }
 
 impl<'o> Paths<'o> {
-    /// How many there are: one an object.
+    /// How many there are: one for each live object.
     pub fn len(&self) -> usize {
         self.ends.len()
     }
@@ -103,10 +127,11 @@ impl<'o> Paths<'o> {
 /// A table's paths, one after the other.
 ///
 /// ```
-/// use ptp_proved::ObjectTable;
-/// let table = ObjectTable { handles: &[7, 8], parents: &[0, 0], ends: &[1, 6], names: b"\0\x02A\0\0\0" };
-/// let (mut out, mut ends) = ([0; 16], [0; 2]);
-/// let mut each = table.paths(&mut out, &mut ends)?.iter();
+/// use ptp_proved::Objects;
+/// let (mut names, mut out, mut ends) = ([0; 6], [0; 16], [0; 2]);
+/// let mut objects = Objects::new(7, &[0], &mut names)?;
+/// objects.add(0, 8, b"\x02A\0\0\0")?;
+/// let mut each = objects.table().paths(&mut out, &mut ends)?.iter();
 /// assert_eq!((each.len(), each.next(), each.next(), each.next()), (2, Some(""), Some("A"), None));
 /// # Ok::<(), ptp_proved::Refusal>(())
 /// ```

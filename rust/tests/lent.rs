@@ -1,7 +1,7 @@
 //! What is lent: a refusal leaves it as it was, the exact need suffices, and nothing past what was given is touched.
 use ptp_proved::{
-    item, mend_recording, newer_value, read_container, tidy_property, unit, utf8, utf8_len, Newer, ObjectTable, PropLayout,
-    PtpDataType, PtpFormData, PtpPropInfo, PtpReader, PtpValues, Refusal, Session,
+    item, mend_recording, newer_value, read_container, tidy_property, unit, utf8, utf8_len, Newer, PropLayout, PtpDataType,
+    PtpFormData, PtpPropInfo, PtpReader, PtpValues, Refusal, Session,
 };
 
 const KEPT: u8 = 0xA5;
@@ -10,14 +10,6 @@ const KEPT: u8 = 0xA5;
 const LIST: [u8; 19] = *b"\x05\xD0\xFF\xFF\x01\x01\x00\x01\x41\x00\x02\x02\x00\x00\x02A\x00\x00\x00";
 const TIDY: [u8; 17] = *b"\x05\xD0\xFF\xFF\x01\x01\x00\x00\x02\x02\x00\x00\x02A\x00\x00\x00";
 const RANGE: [u8; 12] = *b"\x01\x50\x02\x00\x00\x01\x64\x32\x01\x00\x64\x01";
-
-// The root without a name, under it A and C, under A B.
-const TABLE: ObjectTable = ObjectTable {
-    handles: &[1, 2, 3, 4],
-    parents: &[0, 0, 1, 0],
-    ends: &[1, 6, 11, 16],
-    names: b"\x00\x02A\0\0\0\x02B\0\0\0\x02C\0\0\0",
-};
 
 #[test]
 fn tidy_needs_its_exact_room() {
@@ -101,75 +93,6 @@ fn only_an_allowed_value_is_set() {
     let made = session.set_value(PropLayout::Crate, &RANGE, 2, &[5], &mut out).unwrap();
     assert_eq!((made.number, made.bytes.len(), made.bytes[28]), (7, 29, 5));
     assert_eq!((session.number(), &out[29..]), (8, &[KEPT; 3][..]));
-}
-
-#[test]
-fn walk_needs_its_exact_room() {
-    for room in 0..4 {
-        let mut places = [9; 6];
-        assert_eq!(TABLE.walk(&mut places[..room]), Err(Refusal::ROOM));
-        assert_eq!(places, [9; 6]);
-    }
-    for room in [4, 6] {
-        let mut places = [9; 6];
-        assert_eq!(TABLE.walk(&mut places[..room]), Ok(&[0, 1, 3, 2][..]));
-        assert_eq!(places[4..], [9, 9]);
-    }
-}
-
-// As `paths` tells it.
-fn need(table: &ObjectTable) -> usize {
-    let mut lengths = vec![utf8_len(table.names, 0).unwrap().0];
-    for place in 1..table.handles.len() {
-        let above = lengths[table.parents[place] as usize];
-        let (name, _) = utf8_len(table.names, table.ends[place - 1] as usize).unwrap();
-        lengths.push(above + usize::from(above > 0) + name);
-    }
-    lengths.iter().sum()
-}
-
-#[test]
-fn the_need_of_paths_can_be_known() {
-    // a root with a name, in it é, in that B
-    let named = ObjectTable {
-        handles: &[1, 2, 3],
-        parents: &[0, 0, 1],
-        ends: &[5, 10, 15],
-        names: b"\x02R\0\0\0\x02\xE9\0\0\0\x02B\0\0\0",
-    };
-    for table in [TABLE, named] {
-        let (mut out, mut ends) = ([KEPT; 16], [9; 4]);
-        assert_eq!(table.paths(&mut out[..need(&table) - 1], &mut ends), Err(Refusal::ROOM));
-        assert_eq!(table.paths(&mut out[..need(&table)], &mut ends).unwrap().bytes().len(), need(&table));
-    }
-}
-
-#[test]
-fn paths_need_their_exact_room() {
-    for (room, ends_room) in [(4, 4), (5, 3), (0, 0), (4, 3)] {
-        let (mut out, mut ends) = ([KEPT; 8], [9; 6]);
-        assert_eq!(TABLE.paths(&mut out[..room], &mut ends[..ends_room]), Err(Refusal::ROOM));
-        assert_eq!((out, ends), ([KEPT; 8], [9; 6]));
-    }
-    for (room, ends_room) in [(5, 4), (8, 6)] {
-        let (mut out, mut ends) = ([KEPT; 8], [9; 6]);
-        let paths = TABLE.paths(&mut out[..room], &mut ends[..ends_room]).unwrap();
-        assert!(paths.iter().eq(["", "A", "C", "A/B"]));
-        assert_eq!(paths.get(4), None);
-        assert_eq!((&out[5..], &ends[4..]), (&[KEPT; 3][..], &[9; 2][..]));
-    }
-}
-
-#[test]
-fn refused_table_writes_nothing() {
-    let late_parent = ObjectTable { parents: &[0, 0, 3, 0], ..TABLE };
-    let short_names = ObjectTable { ends: &[1, 6, 10, 16], ..TABLE };
-    for (table, why) in [(late_parent, Refusal::TABLE), (short_names, Refusal::END { at: 0 })] {
-        let (mut out, mut ends, mut places) = ([KEPT; 8], [9; 4], [9; 4]);
-        assert_eq!(table.paths(&mut out, &mut ends), Err(why));
-        assert_eq!(table.walk(&mut places), Err(why));
-        assert_eq!((out, ends, places), ([KEPT; 8], [9; 4], [9; 4]));
-    }
 }
 
 fn list_of(info: PtpPropInfo<'_>) -> PtpValues<'_> {

@@ -27,9 +27,10 @@ fn list() -> PtpValues<'static> {
 fn iterators_count_and_stay_ended() {
     counts(list().iter(), 2);
     counts(PtpReader::new(&[2, 0, 0, 0, 7, 8]).read_ptp_u8_vec().unwrap().iter(), 2);
-    let table = ObjectTable { handles: &[1, 2], parents: &[0, 0], ends: &[1, 6], names: b"\0\x02A\0\0\0" };
-    let (mut out, mut ends) = ([0; 16], [0; 2]);
-    counts(table.paths(&mut out, &mut ends).unwrap().into_iter(), 2);
+    let (mut names, mut out, mut ends) = ([0; 6], [0; 16], [0; 2]);
+    let mut objects = Objects::new(1, &[0], &mut names).unwrap();
+    objects.add(0, 2, b"\x02A\0\0\0").unwrap();
+    counts(objects.table().paths(&mut out, &mut ends).unwrap().into_iter(), 2);
     let mut lent = [0; 32];
     let row = entry_bytes(6, 0x5001, None, 2, &[50], &mut lent).unwrap();
     counts(Settings::read(Edition::One, row).unwrap().into_iter(), 1);
@@ -47,8 +48,8 @@ fn what_is_equal_has_one_hash() {
 
 #[test]
 fn every_refusal_is_a_sentence_of_its_own() {
-    let said: HashSet<_> = (1..=18).map(|number| Refusal::from_number(number, 5).unwrap().to_string()).collect();
-    assert_eq!(said.len(), 18);
+    let said: HashSet<_> = (1..=19).map(|number| Refusal::from_number(number, 5).unwrap().to_string()).collect();
+    assert_eq!(said.len(), 19);
     assert_eq!(said.iter().filter(|sentence| sentence.ends_with(" (at byte 5)")).count(), 2);
 }
 
@@ -74,6 +75,16 @@ fn a_recorder_shows_what_was_recorded() {
     assert_eq!(format!("{recorder:?}").matches(", ").count(), 18);
     // the recorder is gone, and what it recorded stays
     assert_eq!(recorder.into_bytes(), b"\x12\0\0\0\x01\0\x0C\0\0\0\x03\0\x01\x20\0\0\0\0");
+}
+
+#[test]
+fn objects_show_what_is_used() {
+    let mut names = [0; 8];
+    let mut objects = Objects::new(5, &[0], &mut names).unwrap();
+    objects.add(0, 6, b"\x02A\0\0\0").unwrap();
+    objects.delete(1).unwrap();
+    let shown = "handles: [5, 6], parents: [0, 0], ends: [1, 6], marks: [1, 0], names: [0, 2, 65, 0, 0, 0], room: 8";
+    assert_eq!(format!("{objects:?}"), format!("Objects {{ {shown} }}"));
 }
 
 #[cfg(feature = "alloc")]

@@ -2,6 +2,8 @@ pub mod laws
 pub mod Minus
 pub mod Copying
 pub mod Integers
+pub mod Typed
+pub mod Numbers
 pub mod Listing
 pub mod Parted
 pub mod Unique

@@ -1,5 +1,5 @@
 -- The promises determine the answer: two words that a promise allows, and what they leave, are the same.
--- A word is that of an answer, and the answer that is allowed is one: by the rule of writers, of the walk, of all paths, of commands.
+-- A word is that of an answer, and the answer that is allowed is one: by the rule of writers, of the walk, of all paths, of tables that change, of commands.
 -- Assumes nothing.
 use mathlib.Core.Path.{_≡_, refl, sym, ap, _∙_}
 use mathlib.Core.List.{List, _∷_, _++_}
@@ -14,6 +14,9 @@ use Rattle.session.specs.Transaction.{turn}
 use Rattle.tree.specs.Path.{Walked, AllPaths}
 use Rattle.tree.specs.Table.{Table}
 use Rattle.tree.proofs.laws.Unique.{one-walked, one-paths}
+use Rattle.shots.specs.Added.{Adds}
+use Rattle.shots.specs.Collected.{Collected}
+use Rattle.shots.proofs.laws.Unique.{one-collected, one-added}
 use Rattle.abi.specs.Answered.{word, Tells, Gives}
 use Rattle.abi.specs.Copied.{unlessRefused, CopiesInto}
 use Rattle.listing.specs.Window.{Windowed}
@@ -52,6 +55,16 @@ pub one-paths-given : (t : Table) (out ends o o′ e e′ : List ℕ) (r s : ℕ
 one-paths-given t out ends o o′ e e′ r s x y =
     let all = one-paths t out ends (spoken (x .answer)) (spoken (y .answer)) o o′ e e′ (rw says-spoken (x .allows)) (rw says-spoken (y .allows)) in
     (same-word x y (spoken-one (x .answer) (y .answer) (all .0)), all .1, all .2)
+
+pub one-collected-given : {t : Table} {old hs hs′ ps ps′ es es′ ms ms′ ns ns′ new new′ : List ℕ} {r s : ℕ}
+    → Tells (λ a. Collected t old a hs ps es ms ns new) r → Tells (λ a. Collected t old a hs′ ps′ es′ ms′ ns′ new′) s
+    → (r ≡ s) × ((hs ≡ hs′) × (ps ≡ ps′) × (es ≡ es′) × (ms ≡ ms′) × (ns ≡ ns′)) × (new ≡ new′)
+one-collected-given x y = let all = one-collected (x .allows) (y .allows) in (same-word x y (all .0), all .1, all .2)
+
+pub one-added-given : {asked : Answer (Unit {0})} {t : Table} {old name hs hs′ ps ps′ es es′ ms ms′ ns ns′ new new′ : List ℕ} {parent handle r s : ℕ}
+    → Tells (λ a. Adds asked t old parent handle name a hs ps es ms ns new) r → Tells (λ a. Adds asked t old parent handle name a hs′ ps′ es′ ms′ ns′ new′) s
+    → (r ≡ s) × ((hs ≡ hs′) × (ps ≡ ps′) × (es ≡ es′) × (ms ≡ ms′) × (ns ≡ ns′)) × (new ≡ new′)
+one-added-given x y = let all = one-added (x .allows) (y .allows) in (same-word x y (all .0), all .1, all .2)
 
 pub one-sent : (n end code count : ℕ) (said : ℕ → Said) (old new new′ : List ℕ) (n′ n″ end′ end″ r s : ℕ)
     → Tells (Parts n end code count said old n′ end′ new) r → Tells (Parts n end code count said old n″ end″ new′) s → (r ≡ s) × (n′ ≡ n″) × (end′ ≡ end″) × (new ≡ new′)

@@ -1,6 +1,7 @@
 pub mod Answered
 pub mod Copied
 pub mod Integers
+pub mod Numbers
 pub mod Listed
 pub mod Rows
 pub mod Sent

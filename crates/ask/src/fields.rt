@@ -1,15 +1,15 @@
 // The fields of the datasets as pieces.
+use crate::print;
 use crate::show;
+use crate::told::Told;
 use wire::DeviceInfo;
 use wire::Enable;
 use wire::Form;
 use wire::ObjectInfo;
 use wire::PropInfo;
 use wire::StorageInfo;
-use words::print;
-use words::told::Told;
 
-pub fn device(t: Told, d: DeviceInfo) -> Told {
+pub(crate) fn device(t: Told, d: DeviceInfo) -> Told {
     let mut r = t.number(d.version as u64);
     r = r.number(d.vendor_ex_id as u64);
     r = r.number(d.vendor_ex_version as u64);
@@ -26,7 +26,7 @@ pub fn device(t: Told, d: DeviceInfo) -> Told {
     show::text(r, d.serial_number)
 }
 
-pub fn object(t: Told, d: ObjectInfo) -> Told {
+pub(crate) fn object(t: Told, d: ObjectInfo) -> Told {
     let mut r = t.number(print::wide32(d.storage_id));
     r = r.number(print::wide16(d.object_format));
     r = r.number(print::wide16(d.protection_status));
@@ -48,7 +48,7 @@ pub fn object(t: Told, d: ObjectInfo) -> Told {
     show::text(r, d.keywords)
 }
 
-pub fn storage(t: Told, d: StorageInfo) -> Told {
+pub(crate) fn storage(t: Told, d: StorageInfo) -> Told {
     let mut r = t.number(d.storage_type as u64);
     r = r.number(d.filesystem_type as u64);
     r = r.number(d.access_capability as u64);
@@ -79,7 +79,7 @@ fn enable(t: Told, e: Enable) -> Told {
     }
 }
 
-pub fn property(t: Told, d: PropInfo) -> Told {
+pub(crate) fn property(t: Told, d: PropInfo) -> Told {
     let code = d.data_type;
     let enabled = d.is_enable;
     let shape = d.form;

@@ -1,23 +1,23 @@
 // Standard input, block by block: the lines lie in one lent buffer, and what is left of the last is moved to its front.
+use crate::slice;
 use stream::Came;
-use words::slice;
 
 const MOST_LINE: usize = 1200000;
 
 // How much of the buffer is filled, and whether the line that begins it is too long, so that its beginning is gone.
-pub struct Held {
+pub(crate) struct Held {
     pub end: usize,
     pub is_long: bool,
 }
 
 // The place after all that came, and whether the reading went well.
-pub struct Filled {
+pub(crate) struct Filled {
     pub end: usize,
     pub ok: bool,
 }
 
 // The buffer for the longest line and a block behind it.
-pub fn room() -> [u8; 1265536] {
+pub(crate) fn room() -> [u8; 1265536] {
     [0u8; 1265536]
 }
 
@@ -35,7 +35,7 @@ fn behind(end: usize, n: usize, size: usize) -> Filled {
 }
 
 // The one function that reads: once, behind what is there. The end stays where it is where nothing came; what failed is told.
-pub fn more(lines: &mut [u8], end: usize) -> Filled {
+pub(crate) fn more(lines: &mut [u8], end: usize) -> Filled {
     let size = lines.len();
     match stream::read_some(
         0,
@@ -62,7 +62,7 @@ fn move_front(lines: &mut [u8], start: usize, end: usize) -> usize {
 }
 
 // Keeps what begins the next line; of a line that is too long, nothing.
-pub fn keep(lines: &mut [u8], start: usize, end: usize, is_long: bool) -> Held {
+pub(crate) fn keep(lines: &mut [u8], start: usize, end: usize, is_long: bool) -> Held {
     if is_long {
         return Held { end: 0, is_long };
     }
@@ -76,6 +76,6 @@ pub fn keep(lines: &mut [u8], start: usize, end: usize, is_long: bool) -> Held {
     Held { end: n, is_long }
 }
 
-pub fn is_too_long(line: &[u8]) -> bool {
+pub(crate) fn is_too_long(line: &[u8]) -> bool {
     MOST_LINE < line.len()
 }

@@ -1,4 +1,7 @@
 // The VALUE of `write-value`: an integer of its type, or `undef`.
+use crate::number;
+use crate::number::Parsed;
+use crate::slice;
 use wire::Cursor;
 use wire::Integer;
 use wire::ReadI8;
@@ -10,11 +13,8 @@ use wire::ReadU8;
 use wire::ReadU16;
 use wire::ReadU32;
 use wire::ReadU64;
-use words::number;
-use words::number::Parsed;
-use words::slice;
 
-pub enum Given {
+pub(crate) enum Given {
     Is(Integer),
     Wrong,
 }
@@ -147,7 +147,7 @@ fn undef_of(w: &[u8]) -> Given {
 }
 
 // An array's type and a string's have no VALUE here.
-pub fn integer_of(code: u16, w: &[u8]) -> Given {
+pub(crate) fn integer_of(code: u16, w: &[u8]) -> Given {
     match code {
         1..=8 => narrow_of(code, w),
         9..=10 => wide_of(code, w),

@@ -1,17 +1,18 @@
 // The questions of settings: a row's entries, the one that is kept for a camera's property, the row after a store.
+use crate::args::Args;
+use crate::args::low16;
+use crate::args::low32;
+use crate::print;
 use crate::show;
+use crate::slice;
+use crate::told;
+use crate::told::Told;
+use crate::width;
 use settings::Checked;
 use settings::Edition;
 use settings::Entry;
 use settings::Found;
 use settings::ReadEntry;
-use words::args::Args;
-use words::args::low16;
-use words::args::low32;
-use words::print;
-use words::slice;
-use words::told;
-use words::told::Told;
 
 // An entry that holds for any serial.
 const ANY: u16 = 16;
@@ -60,7 +61,7 @@ fn print_entries(e: Edition, src: &[u8], count: usize, text: &mut [u8], to: usiz
     o
 }
 
-pub fn row(a: Args, src: &[u8], text: &mut [u8], at: usize) -> usize {
+pub(crate) fn row(a: Args, src: &[u8], text: &mut [u8], at: usize) -> usize {
     let e = edition(a);
     match settings::check_row(e, src) {
         Checked::Whole(count) => {
@@ -83,19 +84,21 @@ fn found(f: Found) -> Told {
     }
 }
 
-pub fn find(a: Args, src: &[u8], halves: &[u16], text: &mut [u8], at: usize) -> usize {
+pub(crate) fn find(a: Args, src: &[u8], numbers: &[u32], text: &mut [u8], at: usize) -> usize {
+    let mut room = width::halves_room();
+    let n = width::to16(slice::part32(numbers, a.numbers[4], a.counts[4]), &mut room);
     let f = settings::find(
         edition(a),
         src,
         low32(a.numbers[2]),
         low16(a.numbers[3]),
-        slice::part16(halves, a.counts[4]),
+        slice::part16(&room, n),
     );
     show::tell(text, at, src, found(f))
 }
 
 // Of the two words that are bytes the row comes first.
-pub fn store(a: Args, line: &[u8], entry: &[u8], page: &mut [u8]) -> Told {
+pub(crate) fn store(a: Args, line: &[u8], entry: &[u8], page: &mut [u8]) -> Told {
     told::written(settings::store(
         edition(a),
         slice::counted(line, a.numbers[1], a.counts[1]),

@@ -3,12 +3,12 @@ ghost use mathlib.Core.Path.{_≡_};
 ghost use Rattle.wire.specs.List.{placeOf, stepAt, saysStep};
 ghost use Rattle.wire.specs.Property.{hasEnable};
 use crate::show;
+use crate::told;
+use crate::told::Told;
 use wire::Place;
 use wire::PropLayout;
 use wire::Step;
 use wire::Values;
-use words::told;
-use words::told::Told;
 
 // The step from the list's beginning.
 fn first(l: PropLayout, src: &[u8]) -> Step
@@ -83,7 +83,7 @@ fn head(p: Place, steps: u64) -> Told {
     t.number(steps)
 }
 
-pub fn answer(l: PropLayout, src: &[u8], text: &mut [u8], at: usize) -> usize {
+pub(crate) fn answer(l: PropLayout, src: &[u8], text: &mut [u8], at: usize) -> usize {
     let p = wire::place_of(l, src);
     let n = steps(l, src, p.ty, p.refusal);
     let o = show::tell(text, at, src, head(p, n));

@@ -1,8 +1,8 @@
 // A recording's listing, window by window, with its line ends escaped.
+use crate::print;
+use crate::slice;
 use layout::Written;
 use listing::Tally;
-use words::print;
-use words::slice;
 
 // The listing's numbers, and the place after its text.
 struct Shown {
@@ -90,7 +90,7 @@ fn list_into(src: &[u8], out: &mut [u8], text: &mut [u8], at: usize) -> usize {
     escaped_writing(text, shown.at, ending, out)
 }
 
-pub fn answer(src: &[u8], text: &mut [u8], at: usize) -> usize {
+pub(crate) fn answer(src: &[u8], text: &mut [u8], at: usize) -> usize {
     let mut out = crate::out_room();
     list_into(src, &mut out, text, at)
 }

@@ -1,5 +1,7 @@
 // Answers questions, one a line, from standard input (docs/ASK.md). A question is a row of the table in question.rt, an arm of its
-// group, and a function there.
+// group, and a function there. The words of a line are read by args, many, number, slice and table, brought to another width by width, and its answer is printed by told and
+// print: these know no question.
+mod args;
 mod fields;
 mod input;
 mod integer;
@@ -7,17 +9,23 @@ mod kept;
 mod list;
 mod listed;
 mod long;
+mod many;
 mod mended;
+mod number;
+mod objects;
+mod print;
 mod question;
 mod reads;
 mod show;
+mod slice;
+mod table;
+mod told;
+mod width;
 mod writes;
 
+use args::Args;
 use input::Held;
 use question::Question;
-use words::args::Args;
-use words::print;
-use words::slice;
 
 // Where the first line stands that is not answered, and the place after the answers.
 struct Done {
@@ -36,13 +44,9 @@ fn out_room() -> [u8; 1048576] {
     [0u8; 1048576]
 }
 
-fn halves_room() -> [u16; 4096] {
-    [0u16; 4096]
-}
-
-// For two lists of the most numbers that one may have.
-fn numbers_room() -> [u32; 8192] {
-    [0u32; 8192]
+// For four lists of the most numbers that one may have.
+fn numbers_room() -> [u32; 16384] {
+    [0u32; 16384]
 }
 
 // A writer's output is filled before, and printed whole after its pieces.
@@ -51,14 +55,13 @@ fn write(
     a: Args,
     line: &[u8],
     src: &[u8],
-    halves: &[u16],
     numbers: &[u32],
     text: &mut [u8],
     at: usize,
 ) -> usize {
     let mut out = out_room();
     let page = print::page(&mut out, a.room);
-    let t = writes::of(arm, a, line, src, halves, numbers, page);
+    let t = writes::of(arm, a, line, src, numbers, page);
     let o = show::tell(text, at, src, t);
     if !t.ok {
         return o;
@@ -66,35 +69,26 @@ fn write(
     print::output(text, o, page)
 }
 
-fn reply(
-    q: Question,
-    a: Args,
-    line: &[u8],
-    halves: &[u16],
-    numbers: &[u32],
-    text: &mut [u8],
-    at: usize,
-) -> usize {
+fn reply(q: Question, a: Args, line: &[u8], numbers: &[u32], text: &mut [u8], at: usize) -> usize {
     let src = slice::counted(line, a.start, a.count);
     if q.group == question::READS {
         return show::tell(text, at, src, reads::of(q.arm, a, src));
     }
     if q.group == question::WRITES {
-        return write(q.arm, a, line, src, halves, numbers, text, at);
+        return write(q.arm, a, line, src, numbers, text, at);
     }
-    long::of(q.arm, a, line, src, halves, numbers, text, at)
+    long::of(q.arm, a, line, src, numbers, text, at)
 }
 
 fn answer(line: &mut [u8], text: &mut [u8], at: usize) -> usize {
-    let mut halves = halves_room();
     let mut numbers = numbers_room();
     let end = slice::find(line, 0, b' ');
     let q = question::named(slice::part(line, 0, end));
-    let a = question::read(q, line, end, &mut halves, &mut numbers);
+    let a = question::read(q, line, end, &mut numbers);
     if !q.ok || !a.ok {
         return print::unknown(text, at);
     }
-    reply(q, a, line, &halves, &numbers, text, at)
+    reply(q, a, line, &numbers, text, at)
 }
 
 // An answer with its line end; of a line that is too long not all is there.

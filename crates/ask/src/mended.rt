@@ -1,19 +1,14 @@
 // A damaged recording mended: what is kept, and the report, whose two lists are printed by runs.
+use crate::args::Args;
+use crate::print;
 use crate::show;
+use crate::told;
+use crate::told::Told;
 use mending::Mended;
-use words::args::Args;
-use words::print;
-use words::told;
-use words::told::Told;
 
 // For the most stretches that a report may have room for.
 fn report_room() -> [u64; 4096] {
     [0u64; 4096]
-}
-
-fn put_list(text: &mut [u8], at: usize, list: &[u64]) -> usize {
-    let o = print::put(text, at, b' ');
-    print::runs(text, o, list)
 }
 
 // The answer's first words, then the output.
@@ -33,7 +28,7 @@ fn put_answer(text: &mut [u8], at: usize, m: Mended, page: &[u8]) -> usize {
     }
 }
 
-pub fn answer(a: Args, src: &[u8], text: &mut [u8], at: usize) -> usize {
+pub(crate) fn answer(a: Args, src: &[u8], text: &mut [u8], at: usize) -> usize {
     let mut out = crate::out_room();
     let mut first = report_room();
     let mut second = report_room();
@@ -42,6 +37,6 @@ pub fn answer(a: Args, src: &[u8], text: &mut [u8], at: usize) -> usize {
     let lengths = print::report(&mut second, a.numbers[2]);
     let m = mending::mend(src, page, starts, lengths);
     let o = put_answer(text, at, m, page);
-    let b = put_list(text, o, starts);
-    put_list(text, b, lengths)
+    let b = print::put_list(text, o, starts);
+    print::put_list(text, b, lengths)
 }

@@ -1,16 +1,16 @@
 // The questions, each a row of one table: its name; two letters, which are its group's and in the group its arm's; its words, a letter
-// each (words::args). A row may stand anywhere.
-use words::args;
-use words::args::Args;
-use words::slice;
-use words::table;
+// each (args.rt). A row may stand anywhere.
+use crate::args;
+use crate::args::Args;
+use crate::slice;
+use crate::table;
 
 // The groups: those that only read, those that write into a room, and `l`, those whose answers have no bound.
-pub const READS: u8 = b'r';
+pub(crate) const READS: u8 = b'r';
 
-pub const WRITES: u8 = b'w';
+pub(crate) const WRITES: u8 = b'w';
 
-const TABLE: [u8; 754] = *b"\
+const TABLE: [u8; 813] = *b"\
     response-name rR 2;\
     command-name rC 2;\
     value rv 28b;\
@@ -48,9 +48,12 @@ const TABLE: [u8; 754] = *b"\
     storage-info rS b;\
     device-info rD b;\
     object-info rO b;\
-    walk lw nhnb;\
-    path wp nhnb8r;\
-    paths lp nhnbr;\
+    walk lw nhno8b;\
+    path wp nhno8b8r;\
+    paths lp nhno8br;\
+    delete ld nhno8b8;\
+    collect lC nhno8b;\
+    add la nhno8b84b;\
     settings ls eb;\
     settings-find lf eb42h;\
     settings-store wk ebbr;\
@@ -60,7 +63,7 @@ const TABLE: [u8; 754] = *b"\
     mend lm brm;\
     listing lL b";
 
-pub struct Question {
+pub(crate) struct Question {
     pub group: u8,
     pub arm: u8,
     pub start: usize,
@@ -68,7 +71,7 @@ pub struct Question {
     pub ok: bool,
 }
 
-pub fn named(w: &[u8]) -> Question {
+pub(crate) fn named(w: &[u8]) -> Question {
     let rows = TABLE;
     let row = table::find(&rows, w);
     let said = slice::part(&rows, row.start, row.end);
@@ -82,14 +85,8 @@ pub fn named(w: &[u8]) -> Question {
 }
 
 // The question's words, which stand in the line from a place on.
-pub fn read(
-    q: Question,
-    line: &mut [u8],
-    at: usize,
-    halves: &mut [u16],
-    numbers: &mut [u32],
-) -> Args {
+pub(crate) fn read(q: Question, line: &mut [u8], at: usize, numbers: &mut [u32]) -> Args {
     let rows = TABLE;
     let said = slice::part(&rows, q.start, q.end);
-    args::read(slice::part(said, 3, said.len()), line, at, halves, numbers)
+    args::read(slice::part(said, 3, said.len()), line, at, numbers)
 }

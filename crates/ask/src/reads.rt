@@ -1,6 +1,12 @@
 // The questions that read: words and bytes in, pieces out. Nothing is lent to be changed.
+use crate::args::Args;
+use crate::args::low8;
+use crate::args::low16;
+use crate::args::low32;
 use crate::fields;
 use crate::show;
+use crate::told;
+use crate::told::Told;
 use names::Name;
 use recording::ReadRecord;
 use session::Found;
@@ -19,12 +25,6 @@ use wire::ReadU32;
 use wire::ReadValue;
 use wire::Span;
 use wire::Step;
-use words::args::Args;
-use words::args::low8;
-use words::args::low16;
-use words::args::low32;
-use words::told;
-use words::told::Told;
 
 fn name(n: Name) -> Told {
     match n {
@@ -90,7 +90,7 @@ fn storage(src: &[u8]) -> Told {
 }
 
 // The layout that the question names, by its first word.
-pub fn layout(a: Args) -> PropLayout {
+pub(crate) fn layout(a: Args) -> PropLayout {
     if a.numbers[0] == 1 {
         PropLayout::Book
     } else {
@@ -217,7 +217,7 @@ fn record(src: &[u8]) -> Told {
 }
 
 // By the letter of the question's arm.
-pub fn of(arm: u8, a: Args, src: &[u8]) -> Told {
+pub(crate) fn of(arm: u8, a: Args, src: &[u8]) -> Told {
     match arm {
         b'R' => name(names::response_name(low16(a.numbers[0]))),
         b'C' => name(names::command_name(low16(a.numbers[0]))),

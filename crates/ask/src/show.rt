@@ -1,15 +1,15 @@
 // The pieces of an answer that stand in the question's bytes: strings, arrays, rows of values.
+use crate::print;
+use crate::slice;
+use crate::told;
+use crate::told::Piece;
+use crate::told::Told;
 use wire::Cursor;
 use wire::Part;
 use wire::ReadU16;
 use wire::ReadValue;
 use wire::Slot;
 use wire::Value;
-use words::print;
-use words::slice;
-use words::told;
-use words::told::Piece;
-use words::told::Told;
 
 const TEXT: u8 = 4;
 
@@ -66,31 +66,31 @@ fn piece_of(code: u16, v: Value) -> Piece {
     }
 }
 
-pub fn value(t: Told, code: u16, v: Value) -> Told {
+pub(crate) fn value(t: Told, code: u16, v: Value) -> Told {
     t.and(piece_of(code, v))
 }
 
-pub fn text(t: Told, p: Part) -> Told {
+pub(crate) fn text(t: Told, p: Part) -> Told {
     t.and(units_of(p))
 }
 
 // An AUINT16.
-pub fn array(t: Told, p: Part) -> Told {
+pub(crate) fn array(t: Told, p: Part) -> Told {
     t.and(items(UINT16, p))
 }
 
 // A name, by its place in the name bytes.
-pub fn name(t: Told, start: usize, len: usize) -> Told {
+pub(crate) fn name(t: Told, start: usize, len: usize) -> Told {
     t.and(told::plain(NAME, start as u64, len as u64))
 }
 
 // The items of an AUINT32 as a list of numbers.
-pub fn list(t: Told, p: Part) -> Told {
+pub(crate) fn list(t: Told, p: Part) -> Told {
     t.and(told::plain(LIST, p.start as u64, p.count as u64))
 }
 
 // So many values of a type, which fill a part.
-pub fn slot(t: Told, code: u16, s: Slot, count: u16) -> Told {
+pub(crate) fn slot(t: Told, code: u16, s: Slot, count: u16) -> Told {
     if count == 0 {
         return t;
     }
@@ -151,7 +151,7 @@ fn row(text: &mut [u8], at: usize, src: &[u8], code: u16, start: usize, count: u
 }
 
 // A value.
-pub fn put(text: &mut [u8], at: usize, src: &[u8], p: Piece) -> usize {
+pub(crate) fn put(text: &mut [u8], at: usize, src: &[u8], p: Piece) -> usize {
     if p.kind == ITEMS {
         let o = print::put(text, at, b'[');
         let a = row(text, o, src, p.code, p.a as usize, p.b as usize);
@@ -160,7 +160,7 @@ pub fn put(text: &mut [u8], at: usize, src: &[u8], p: Piece) -> usize {
     single(text, at, src, p)
 }
 
-pub fn put_value(text: &mut [u8], at: usize, src: &[u8], code: u16, v: Value) -> usize {
+pub(crate) fn put_value(text: &mut [u8], at: usize, src: &[u8], code: u16, v: Value) -> usize {
     let o = print::put(text, at, b' ');
     put(text, o, src, piece_of(code, v))
 }
@@ -211,7 +211,7 @@ fn any(text: &mut [u8], at: usize, src: &[u8], p: Piece) -> usize {
 }
 
 // The whole answer, `?` where it is none.
-pub fn tell(text: &mut [u8], at: usize, src: &[u8], t: Told) -> usize {
+pub(crate) fn tell(text: &mut [u8], at: usize, src: &[u8], t: Told) -> usize {
     if !t.ok {
         return print::unknown(text, at);
     }

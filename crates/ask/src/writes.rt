@@ -1,19 +1,21 @@
 // The questions that write: words, bytes and lists in, the output filled and lent, pieces out.
+use crate::args::Args;
+use crate::args::low16;
+use crate::args::low32;
 use crate::integer;
 use crate::integer::Given;
 use crate::kept;
+use crate::objects;
 use crate::reads;
+use crate::slice;
+use crate::table;
+use crate::told;
+use crate::told::Told;
+use crate::width;
 use session::Made;
 use session::Session;
 use wire::Command;
 use wire::Cursor;
-use words::args::Args;
-use words::args::low16;
-use words::args::low32;
-use words::slice;
-use words::table;
-use words::told;
-use words::told::Told;
 
 fn made(m: Made) -> Told {
     match m {
@@ -44,15 +46,10 @@ fn state(x: usize) -> Session {
     Session { number: low32(x) }
 }
 
-fn path(a: Args, src: &[u8], halves: &[u16], numbers: &[u32], page: &mut [u8]) -> Told {
-    told::written(tree::path(
-        slice::part32(numbers, a.numbers[0], a.counts[0]),
-        slice::part16(halves, a.counts[1]),
-        slice::part32(numbers, a.numbers[2], a.counts[2]),
-        src,
-        a.numbers[4],
-        page,
-    ))
+fn write_string(a: Args, numbers: &[u32], page: &mut [u8]) -> Told {
+    let mut room = width::halves_room();
+    let n = width::to16(slice::part32(numbers, a.numbers[0], a.counts[0]), &mut room);
+    told::written(wire::write_text(slice::part16(&room, n), page))
 }
 
 fn write_value(a: Args, w: &[u8], page: &mut [u8]) -> Told {
@@ -162,12 +159,11 @@ fn of_bytes(arm: u8, a: Args, src: &[u8], page: &mut [u8]) -> Told {
 }
 
 // By the letter of the question's arm.
-pub fn of(
+pub(crate) fn of(
     arm: u8,
     a: Args,
     line: &[u8],
     src: &[u8],
-    halves: &[u16],
     numbers: &[u32],
     page: &mut [u8],
 ) -> Told {
@@ -176,7 +172,7 @@ pub fn of(
         b'k' => kept::store(a, line, src, page),
         b'v' => write_value(a, src, page),
         b'C' => call(a, src, page),
-        b's' => told::written(wire::write_text(slice::part16(halves, a.counts[0]), page)),
+        b's' => write_string(a, numbers, page),
         b'm' => made(session::command(state(a.numbers[0]), command_of(a, numbers), page)),
         b'd' => made(session::command_with_data(
             state(a.numbers[0]),
@@ -184,7 +180,7 @@ pub fn of(
             src,
             page,
         )),
-        b'p' => path(a, src, halves, numbers, page),
+        b'p' => objects::path(a, line, numbers, page),
         _ => of_bytes(arm, a, src, page),
     }
 }

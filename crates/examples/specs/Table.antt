@@ -1,13 +1,14 @@
 -- Document 01's numbered examples, in its order: what is given, and what is to come out, by the definitions that the contracts cite.
 -- Assumes nothing.
-use mathlib.Core.Bool.{Bool, true}
+use mathlib.Core.Bool.{Bool, true, false}
 use mathlib.Core.List.{List, [], _∷_}
 use mathlib.Core.Option.{some}
 use Prim.Native.Nat.{ℕ}
 use lib.IntN.{negsuc}
 use lib.ListN.{replicate}
-use Rattle.layout.specs.Answer.{Answer, got, refused, means, endAt, badText}
-use Rattle.layout.specs.Written.{Said, says, wordAt}
+use Rattle.layout.specs.Answer.{Answer, got, refused, bare, means, endAt, badText}
+use Rattle.layout.specs.Refusals.{PLACE}
+use Rattle.layout.specs.Written.{Said, says, no, wordAt}
 use Rattle.wire.specs.Layout.{UINT16, AUINT16, STR, shape, Val, num, nums, str, nil, int, nat, pair, Reading, range, list}
 use Rattle.wire.specs.Codecs.{value}
 use Rattle.wire.specs.Places.{valueAt, shapeIn}
@@ -20,7 +21,7 @@ use Rattle.wire.specs.declared.container.Header.{Header}
 use Rattle.wire.specs.declared.container.Command.{Command}
 use Rattle.session.specs.Calls.{openSession}
 use Rattle.session.specs.Transaction.{freshSession}
-use Rattle.tree.specs.Table.{Table, table}
+use Rattle.tree.specs.Table.{Table, table, rows, flags}
 use Rattle.tree.specs.Path.{pathSaid}
 use Rattle.tree.proofs.laws.Tested.{walkTest}
 
@@ -51,7 +52,7 @@ shown (a-text s) = encodes (utf8At s 0)
 shown (a-property l s) = describes (means (propertyIn s) (propertyAt (hasEnable l) s 0))
 shown (a-header s) = heads (headerAt s 0)
 shown (a-command c n) = spells (commandSaid c n)
-shown (a-tree t order place) = walks (walkTest (t .parents) order) (pathSaid t place)
+shown (a-tree t order place) = walks (walkTest (rows t) (flags t) order) (pathSaid t place)
 
 pub record Example : Type 0 where
   pub given : Given
@@ -112,13 +113,19 @@ n13 = 1 ∷ 0x50 ∷ 0 ∷ 0 ∷ 0 ∷ 0 ∷ 2 ∷ 0xFF ∷ 0xFF ∷ []
 abbrev pub n13-reading : Reading
 n13-reading = record { code = 0x5001; type = 0; getset = 0; enable = some 0; default = nil; current = nil; form = list (replicate 65535 nil) }
 
--- four objects: names empty, A, B, C
+-- four objects, all live, in lists of 1,024 places: names empty, A, B, C
 abbrev pub objects : Table
 objects =
-    table (10 ∷ 11 ∷ 12 ∷ 13 ∷ []) (0 ∷ 0 ∷ 1 ∷ 0 ∷ []) (1 ∷ 6 ∷ 11 ∷ 16 ∷ [])
+    table (10 ∷ 11 ∷ 12 ∷ 13 ∷ zeros 1020) (0 ∷ 0 ∷ 1 ∷ 0 ∷ zeros 1020) (1 ∷ 6 ∷ 11 ∷ 16 ∷ zeros 1020) (1 ∷ 1 ∷ 1 ∷ 1 ∷ zeros 1020) 4
     (0 ∷ 2 ∷ 0x41 ∷ 0 ∷ 0 ∷ 0 ∷ 2 ∷ 0x42 ∷ 0 ∷ 0 ∷ 0 ∷ 2 ∷ 0x43 ∷ 0 ∷ 0 ∷ 0 ∷ [])
 
--- ── N1 to N16 ──
+-- the same tree with a root that has a name, R, and its last object not live
+abbrev pub named-objects : Table
+named-objects =
+    table (10 ∷ 11 ∷ 12 ∷ 13 ∷ zeros 1020) (0 ∷ 0 ∷ 1 ∷ 0 ∷ zeros 1020) (5 ∷ 10 ∷ 15 ∷ 20 ∷ zeros 1020) (1 ∷ 1 ∷ 1 ∷ 0 ∷ zeros 1020) 4
+    (2 ∷ 0x52 ∷ 0 ∷ 0 ∷ 0 ∷ 2 ∷ 0x41 ∷ 0 ∷ 0 ∷ 0 ∷ 2 ∷ 0x42 ∷ 0 ∷ 0 ∷ 0 ∷ 2 ∷ 0x43 ∷ 0 ∷ 0 ∷ 0 ∷ [])
+
+-- ── N1 to N16, and N16's like ──
 
 abbrev pub examples : List Example
 examples =
@@ -145,4 +152,8 @@ examples =
     ∷ example (a-command openSession (freshSession .number)) (spells (says (0x18 ∷ 0 ∷ 0 ∷ 0 ∷ 1 ∷ 0 ∷ 2 ∷ 0x10 ∷ 0 ∷ 0 ∷ 0 ∷ 0 ∷ 3 ∷ zeros 11)))
     -- N16 the tree: order 0, 1, 3, 2; the path of 2 is A/B
     ∷ example (a-tree objects (0 ∷ 1 ∷ 3 ∷ 2 ∷ []) 2) (walks true (says (0x41 ∷ 0x2F ∷ 0x42 ∷ [])))
+    -- with the named root: its path is its name, a slash follows it, and what is not live is in no order and has no path, 12
+    ∷ example (a-tree named-objects (0 ∷ 1 ∷ 2 ∷ []) 0) (walks true (says (0x52 ∷ [])))
+    ∷ example (a-tree named-objects (0 ∷ 1 ∷ 2 ∷ []) 2) (walks true (says (0x52 ∷ 0x2F ∷ 0x41 ∷ 0x2F ∷ 0x42 ∷ [])))
+    ∷ example (a-tree named-objects (0 ∷ 1 ∷ 3 ∷ 2 ∷ []) 3) (walks false (no (bare PLACE)))
     ∷ []

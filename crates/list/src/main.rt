@@ -5,9 +5,9 @@ ghost use Prim.Native.Nat.{_≤_};
 ghost use lib.ListN.{length};
 use libc::STDIN_FILENO;
 use libc::STDOUT_FILENO;
-use listing::Next;
 use listing::Stand;
 use stream::Came;
+use turns::Next;
 
 enum Going {
     On(Stand),
@@ -16,9 +16,10 @@ enum Going {
 
 // Reads what comes after the bytes that are held.
 fn read_on(s: Stand, window: &mut [u8]) -> Going
-    requires { ⌜ s .held ≤ length (now window) ⌝ }
+    requires { ⌜ s .hold .held ≤ length (now window) ⌝ }
 {
-    let held = s.held;
+    let hold = s.hold;
+    let held = hold.held;
     match stream::read_some(
         STDIN_FILENO,
         &mut window[held..],
@@ -56,6 +57,7 @@ fn main() {
     let mut window = io::large_buffer();
     let mut out = io::large_buffer();
     let mut stand = listing::start();
+    // A bound that no run reaches: a loop must have one.
     let mut turns = u64::MAX;
     while turns > 0 {
         match one_turn(stand, &mut window, &mut out) {

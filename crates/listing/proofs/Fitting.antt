@@ -1,6 +1,6 @@
 -- Every line has room in 128 bytes: a 64-bit number has at most twenty digits, and a name at most 37 bytes.
 -- Assumes nothing.
-use mathlib.Core.Path.{_≡_, refl}
+use mathlib.Core.Path.{_≡_}
 use mathlib.Core.Bool.{Bool, true, false}
 use mathlib.Core.List.{List}
 use mathlib.Core.Option.{Option, some, none}
@@ -8,7 +8,8 @@ use Prim.Native.Nat.{ℕ, _^_, _≤_, _<_}
 use native.Mathlib.Omega.{arith}
 use lib.Dec.{eqb}
 use lib.ListN.{length}
-use Rattle.layout.specs.Answer.{Told, pick}
+use Rattle.io.specs.Digits.{Fewest}
+use Rattle.layout.specs.Answer.{pick}
 use Rattle.layout.specs.Written.{Put}
 use Rattle.names.specs.Names.{spelled, responseName, commandName}
 use Rattle.names.proofs.laws.Spells.{Short, response-short, command-short}
@@ -16,10 +17,10 @@ use Rattle.wire.specs.declared.container.Container.{Container}
 use Rattle.recording.specs.Content.{Content, Record}
 use Rattle.recording.specs.Content as content
 use Rattle.recording.proofs.laws.Rowed.{Stands, Small}
-use Rattle.listing.specs.Lines.{hexCode, wayText, kindText, nameOr, nameFor, codeText, countsText, containerLine, noteLine, atText, refusalLine, ending, contentLine, recordLine}
+use Rattle.listing.specs.Lines.{hexCode, wayText, kindText, nameOr, nameFor, codeText, countsText, containerLine, noteLine, ending, contentLine, recordLine}
 use Rattle.listing.specs.Window.{lineRoom}
-use Rattle.listing.proofs.Numerals.{decimal-short, hex-length}
-use Rattle.listing.proofs.Pieces.{at-none, counts-length, note-length, at-length, refusal-length, ending-length, container-length}
+use Rattle.text.proofs.laws.Numerals.{one-count, digits-length, decimal-short}
+use Rattle.listing.proofs.Pieces.{counts-length, note-length, ending-length, container-length}
 
 way-short : (kind : ℕ) → length (wayText kind) ≤ 5
 unfolding wayText
@@ -48,6 +49,14 @@ name-short kind code = go (eqb kind 3) (eqb kind 4)
     go false true = tt
     go false false = command-short code
 
+hex-length : (code : ℕ) → length (hexCode code) ≡ 6
+unfolding hexCode
+hex-length code = omega (arith, digits-length 16 4 code)
+
+-- a code of 16 bits has four hexadecimal digits
+pub hex-is : (n k : ℕ) → n < 16 ^ 4 → Fewest 16 4 n k → k ≡ 4
+hex-is n k h p = one-count 16 4 n k 4 (omega arith) p (omega arith, h, λ l. omega arith)
+
 code-short : (kind code : ℕ) → length (codeText kind code) ≤ 37
 unfolding codeText
 code-short kind code = go (nameFor kind code) (name-short kind code)
@@ -73,16 +82,6 @@ container-short place kind x h k l =
 
 note-short : (place count : ℕ) → place < 2 ^ 64 → count < 2 ^ 64 → length (noteLine place count) ≤ lineRoom
 note-short place count h k = omega (arith, note-length place count, decimal-short place h, decimal-short count k)
-
-at-short : (t : Told) → t .at < 2 ^ 64 → length (atText t) ≤ 21
-at-short t h = go (t .placed) refl
-  where
-    go : (b : Bool) → t .placed ≡ b → length (atText t) ≤ 21
-    go true e = omega (arith, at-length t e, decimal-short (t .at) h)
-    go false e = rw (at-none t e) (omega arith)
-
-pub refusal-short : (place : ℕ) (t : Told) → place < 2 ^ 64 → t .no < 256 → t .at < 2 ^ 64 → length (refusalLine place t) ≤ lineRoom
-refusal-short place t h k l = omega (arith, refusal-length place t, decimal-short place h, decimal-short (t .no) (omega arith), at-short t l)
 
 pub ending-short : (records count : ℕ) → records < 2 ^ 64 → count < 2 ^ 64 → length (ending records count) ≤ 64
 ending-short records count h k = omega (arith, ending-length records count, decimal-short records h, decimal-short count k)

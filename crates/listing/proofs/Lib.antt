@@ -1,11 +1,9 @@
 pub mod laws
-pub mod Numerals
 pub mod Spelling
 pub mod Ends
 pub mod Pieces
 pub mod Windows
 pub mod Cut
-pub mod Held
 pub mod Fitting
 pub mod Whole
 pub mod Runs

@@ -1,20 +1,19 @@
 -- Lines are rows of pieces that have room, one after the other.
 -- Assumes nothing.
 use mathlib.Core.Path.{_≡_, sym}
-use mathlib.Core.Bool.{true, false}
-use mathlib.Core.List.{List, [], _++_}
+use mathlib.Core.List.{List, _++_}
 use mathlib.Core.Option.{some, none}
 use Prim.Native.Nat.{ℕ, _+_, _-_, _≤_}
 use native.Mathlib.Omega.{arith}
 use lib.ListN.{length, take, drop, length-append}
-use Rattle.layout.specs.Answer.{Told}
 use Rattle.layout.specs.Written.{Put, roomed}
 use Rattle.layout.proofs.laws.Stored.{first, more}
 use Rattle.names.specs.Names.{spelled, nameBytes}
 use Rattle.recording.specs.Content.{Record}
 use Rattle.recording.specs.Content as content
 use Rattle.wire.specs.declared.container.Container.{Container}
-use Rattle.listing.specs.Lines.{decimal, hexCode, wayText, kindText, nameFor, codeText, countsText, containerLine, noteLine, atText, refusalLine, ending, recordLine}
+use Rattle.text.specs.Number.{decimal}
+use Rattle.listing.specs.Lines.{hexCode, wayText, kindText, nameFor, codeText, countsText, containerLine, noteLine, ending, recordLine}
 
 module _ (A B : List ℕ) {out a b : List ℕ} {at i j : ℕ} where
   pub row2 : at + length (A ++ B) ≤ length out → Put out at (roomed out at A) a i → Put a i (roomed a i B) b j → Put out at (A ++ B) b j
@@ -34,14 +33,6 @@ pub code-nameless : (kind code : ℕ) → none ≡ nameFor kind code → codeTex
 unfolding codeText
 code-nameless kind code e = rw (← e)
 
-pub at-none : (t : Told) → t .placed ≡ false → atText t ≡ []
-unfolding atText
-at-none t e = rw e
-
-pub at-some : (t : Told) → t .placed ≡ true → atText t ≡ spelled " " ++ decimal (t .at)
-unfolding atText
-at-some t e = rw e
-
 pub record-note : (place : ℕ) (x : Record) → x .content ≡ content.note → recordLine place x ≡ noteLine place (x .body .count)
 unfolding recordLine
 record-note place x e = rw e
@@ -59,13 +50,6 @@ counts-length number count = simp length-append (omega arith)
 pub note-length : (place count : ℕ) → length (noteLine place count) ≡ length (decimal place) + length (decimal count) + 11
 unfolding noteLine
 note-length place count = simp length-append (omega arith)
-
-pub at-length : (t : Told) → t .placed ≡ true → length (atText t) ≡ length (decimal (t .at)) + 1
-at-length t e = rw (at-some t e) (simp length-append (omega arith))
-
-pub refusal-length : (place : ℕ) (t : Told) → length (refusalLine place t) ≡ length (decimal place) + length (decimal (t .no)) + length (atText t) + 10
-unfolding refusalLine
-refusal-length place t = simp length-append (omega arith)
 
 pub ending-length : (records count : ℕ) → length (ending records count) ≡ length (decimal records) + length (decimal count) + 16
 unfolding ending

@@ -12,8 +12,8 @@ use lib.ListN.{length, set, length-append}
 use lib.Seq.{sets, set-comm}
 use Rattle.io.specs.Digits.{digits, glyph, Fewest}
 use Rattle.layout.specs.Written.{put, Put}
-use Rattle.listing.specs.Lines.{digitsOf, decimal}
-use Rattle.listing.proofs.Numerals.{more, fewest, decimal-is, digits-length}
+use Rattle.text.specs.Number.{digitsOf, decimal}
+use Rattle.text.proofs.laws.Numerals.{more, fewest, decimal-is, digits-length}
 
 -- ── from the last to the first ──
 

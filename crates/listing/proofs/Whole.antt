@@ -17,11 +17,12 @@ use Rattle.layout.proofs.laws.Accepted.{Accepts}
 use Rattle.layout.proofs.laws.Numbers.{zero-one}
 use Rattle.recording.specs.Content.{Record}
 use Rattle.recording.specs.Record.{recordOf}
-use Rattle.recording.specs.Row.{isCut}
+use Rattle.recording.specs.Row.{isCut, waits}
 use Rattle.recording.proofs.laws.Rowed.{Stands, record-stands, records-none, records-step, uncut-same}
-use Rattle.listing.specs.Lines.{heading, recordLine, refusalLine, ending}
+use Rattle.text.specs.Lines.{refusalLine}
+use Rattle.listing.specs.Lines.{heading, recordLine, ending}
 use Rattle.listing.specs.Listing.{remaining, listing}
-use Rattle.listing.specs.Window.{lineRoom, Windowed, rests, after-line, waits, windowOf}
+use Rattle.listing.specs.Window.{lineRoom, Windowed, rests, after-line, pauses, windowOf}
 use Rattle.listing.specs.Printed.{Printed, ends, goes, stops}
 use Rattle.listing.proofs.Windows.{has-bytes, window-full, window-waits, window-step}
 
@@ -76,8 +77,8 @@ tells-refusal place records s h e = record {
 }
 
 -- with the bytes that follow, the record is the same
-same-record : (last : Bool) (s more : List ℕ) → (last ≡ true → more ≡ []) → waits last s ≡ false → recordOf (s ++ more) ≡ recordOf s
-unfolding waits
+same-record : (last : Bool) (s more : List ℕ) → (last ≡ true → more ≡ []) → pauses last s ≡ false → recordOf (s ++ more) ≡ recordOf s
+unfolding pauses waits
 same-record true s more f e = rw (f refl, append-nil s)
 same-record false s more f e = go (ltb 0 (length s)) e
   where
@@ -92,12 +93,12 @@ module _ (last : Bool) (more : List ℕ) (f : last ≡ true → more ≡ []) whe
   -- a window, if each shorter one does
   tells-next : (s : List ℕ) → Each (λ t. length t < length s) → Each (λ t. t ≡ s)
   unfolding Each
-  tells-next s shorter room s′ place records is k l = rw is (go (leb lineRoom room) refl (waits last s) refl (recordOf s) refl (record-stands s))
+  tells-next s shorter room s′ place records is k l = rw is (go (leb lineRoom room) refl (pauses last s) refl (recordOf s) refl (record-stands s))
     where
       bound : (n : ℕ) → n + length (s′ ++ more) < 2 ^ 64 → n + length (s ++ more) < 2 ^ 64
       bound n h = rw is at h
 
-      line : lineRoom ≤ room → waits last s ≡ false → (x : Record) (n : ℕ) → recordOf s ≡ got x n → Stands s x n → Tells place records (s ++ more) (windowOf last room s place records)
+      line : lineRoom ≤ room → pauses last s ≡ false → (x : Record) (n : ℕ) → recordOf s ≡ got x n → Stands s x n → Tells place records (s ++ more) (windowOf last room s place records)
       line r w x n e p =
           let q = length-append s more in
           let d = drop-append-le n s more (p .within) in
@@ -111,7 +112,7 @@ module _ (last : Bool) (more : List ℕ) (f : last ≡ true → more ≡ []) whe
           (tells-line place records (s ++ more) x n (windowOf last (room - length (recordLine place x)) (drop n s) (place + n) (records + 1)) (omega (arith, p .till)) (omega (arith, p .within)) (same-record last s more f w ∙ e)
           (rw d rest))
 
-      go : (a : Bool) → leb lineRoom room ≡ a → (b : Bool) → waits last s ≡ b → (x : Answer Record) → recordOf s ≡ x → Accepts (Stands s) x → Tells place records (s ++ more) (windowOf last room s place records)
+      go : (a : Bool) → leb lineRoom room ≡ a → (b : Bool) → pauses last s ≡ b → (x : Answer Record) → recordOf s ≡ x → Accepts (Stands s) x → Tells place records (s ++ more) (windowOf last room s place records)
       go false a b w x e p = rw (window-full last room s place records (leb-false lineRoom room a)) (tells-rests place records (s ++ more))
       go true a true w x e p = rw (window-waits last room s place records w) (tells-rests place records (s ++ more))
       go true a false w (refused t) e p =

@@ -18,10 +18,12 @@ use Rattle.layout.proofs.laws.Numbers.{zero-one}
 use Rattle.layout.proofs.laws.Writing.{Owes, start, part, end, long, put-front}
 use Rattle.recording.specs.Content.{Record}
 use Rattle.recording.specs.Record.{recordOf}
-use Rattle.recording.specs.Row.{isCut}
+use Rattle.recording.specs.Row.{isCut, waits}
 use Rattle.recording.proofs.laws.Rowed.{Stands, record-stands}
-use Rattle.listing.specs.Lines.{recordLine, refusalLine}
-use Rattle.listing.specs.Window.{answered, lineRoom, Windowed, rests, after-line, lined, waits, windowFrom, windowOf, Lists}
+use Rattle.text.specs.Lines.{refusalLine}
+use Rattle.listing.specs.Lines.{recordLine}
+use Rattle.listing.specs.Window.{answered, lineRoom, Windowed, rests, after-line, lined, pauses, windowFrom, windowOf, Lists}
+use Rattle.listing.proofs.Cut.{pauses-none}
 
 -- ── a record at a time ──
 
@@ -29,13 +31,9 @@ lined-same : (place records : ℕ) (x : Answer Record) (f g : List ℕ → ℕ �
 lined-same place records (got x n) f g e = ap (after-line (recordLine place x) n) e
 lined-same place records (refused t) f g e = refl
 
-waits-empty : (last : Bool) (s : List ℕ) → length s ≤ 0 → waits last s ≡ true
-unfolding waits
-waits-empty last s h = rw (le-ltb 0 (length s) h)
-
 -- what does not wait has bytes
-pub has-bytes : (last : Bool) (s : List ℕ) → waits last s ≡ false → 0 < length s
-unfolding waits
+pub has-bytes : (last : Bool) (s : List ℕ) → pauses last s ≡ false → 0 < length s
+unfolding pauses waits
 has-bytes last s e = go (ltb 0 (length s)) refl e
   where
     go : (b : Bool) → ltb 0 (length s) ≡ b → pick b (pick last false (isCut s)) true ≡ false → 0 < length s
@@ -46,7 +44,7 @@ module _ (last : Bool) where
   none-from : (f room : ℕ) (s : List ℕ) (p c : ℕ) → length s ≤ 0 → windowFrom f last room s p c ≡ rests p c
   unfolding windowFrom
   none-from zero room s p c h = refl
-  none-from (suc f) room s p c h = rw (waits-empty last s h) (pick-alike (leb lineRoom room) (rests p c))
+  none-from (suc f) room s p c h = rw (pauses-none last s h) (pick-alike (leb lineRoom room) (rests p c))
 
   turn-same :
       (f g room : ℕ) (s : List ℕ) (p c : ℕ) →
@@ -54,7 +52,7 @@ module _ (last : Bool) where
       ≡ windowFrom g last (room - length (recordLine p r)) (drop n s) ((p + n) % 2 ^ 64) ((c + 1) % 2 ^ 64)) (recordOf s) → windowFrom (suc f) last room s p c ≡ windowFrom (suc g) last room s p c
   unfolding windowFrom
   turn-same f g room s p c e =
-      ap (λ w. pick (leb lineRoom room) (pick (waits last s) (rests p c) w) (rests p c))
+      ap (λ w. pick (leb lineRoom room) (pick (pauses last s) (rests p c) w) (rests p c))
       (lined-same p c (recordOf s) (λ line n. windowFrom f last (room - length line) (drop n s) ((p + n) % 2 ^ 64) ((c + 1) % 2 ^ 64)) (λ line n. windowFrom g last (room - length line) (drop n s) ((p + n) % 2 ^ 64) ((c + 1) % 2 ^ 64)) e)
 
   enough : (f g room : ℕ) (s : List ℕ) (p c : ℕ) → length s ≤ f → length s ≤ g → windowFrom f last room s p c ≡ windowFrom g last room s p c
@@ -69,7 +67,7 @@ module _ (last : Bool) where
   unfolding windowFrom
   used-from zero room s p c = omega arith
   used-from (suc f) room s p c =
-      go (leb lineRoom room) (waits last s) (recordOf s) (record-stands s) (λ line n. used-from f (room - length line) (drop n s) ((p + n) % 2 ^ 64) ((c + 1) % 2 ^ 64))
+      go (leb lineRoom room) (pauses last s) (recordOf s) (record-stands s) (λ line n. used-from f (room - length line) (drop n s) ((p + n) % 2 ^ 64) ((c + 1) % 2 ^ 64))
     where
       go :
           (a b : Bool) (x : Answer Record) → Accepts (Stands s) x →
@@ -89,12 +87,12 @@ module _ (last : Bool) where
   unfolding windowOf windowFrom
   window-full room s p c h = enough (length s) (suc (length s)) room s p c (omega arith) (omega arith) ∙ rw (lt-leb lineRoom room h)
 
-  pub window-waits : (room : ℕ) (s : List ℕ) (p c : ℕ) → waits last s ≡ true → windowOf last room s p c ≡ rests p c
+  pub window-waits : (room : ℕ) (s : List ℕ) (p c : ℕ) → pauses last s ≡ true → windowOf last room s p c ≡ rests p c
   unfolding windowOf windowFrom
   window-waits room s p c e = enough (length s) (suc (length s)) room s p c (omega arith) (omega arith) ∙ rw e (pick-alike (leb lineRoom room) (rests p c))
 
   pub window-step :
-      (room : ℕ) (s : List ℕ) (p c : ℕ) → lineRoom ≤ room → waits last s ≡ false →
+      (room : ℕ) (s : List ℕ) (p c : ℕ) → lineRoom ≤ room → pauses last s ≡ false →
       windowOf last room s p c ≡ lined p c (recordOf s) (λ line n. windowOf last (room - length line) (drop n s) ((p + n) % 2 ^ 64) ((c + 1) % 2 ^ 64))
   unfolding windowOf windowFrom
   window-step room s p c h e =
@@ -160,7 +158,7 @@ goes-wrong {w} {rest} {out₀} {out} {out′} {used} {written} {written′} plac
 
 -- one turn: a record is listed, or refused
 module _ (last : Bool) (s : List ℕ) {w : Windowed} {out₀ out out′ : List ℕ} {used written written′ : ℕ} (place records : ℕ)
-    (g : Goes w (windowOf last (length out - written) (drop used s) place records) out₀ out used written) (room : lineRoom ≤ length out - written) (ready : waits last (drop used s) ≡ false) where
+    (g : Goes w (windowOf last (length out - written) (drop used s) place records) out₀ out used written) (room : lineRoom ≤ length out - written) (ready : pauses last (drop used s) ≡ false) where
   pub turn : {x : Record} {n : ℕ} → got x n ≡ recordOf (drop used s) → length (recordLine place x) ≤ lineRoom → Put out written (recordLine place x) out′ written′ →
       Goes w (windowOf last (length out′ - written′) (drop (used + n) s) ((place + n) % 2 ^ 64) ((records + 1) % 2 ^ 64)) out₀ out′ (used + n) written′
   turn {x} {n} e h p =

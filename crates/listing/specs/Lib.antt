@@ -3,4 +3,4 @@ pub mod Listing
 pub mod Window
 pub mod Printed
 pub mod Turn
-pub mod Run
+pub mod Page

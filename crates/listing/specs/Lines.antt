@@ -1,31 +1,22 @@
--- The lines of a listing, as bytes.
+-- The lines of a listing, as bytes. That of a refusal, and how a number is printed, stand in `text`.
 -- Assumes nothing.
-use mathlib.Core.List.{List, [], _++_}
+use mathlib.Core.List.{List, _++_}
 use mathlib.Core.Option.{Option, some, none}
-use Prim.Native.Nat.{ℕ, zero, suc, _/_}
-use lib.Dec.{ltb, eqb}
+use Prim.Native.Nat.{ℕ}
+use lib.Dec.{eqb}
 use Rattle.io.specs.Digits.{digits}
-use Rattle.layout.specs.Answer.{Told, pick}
+use Rattle.layout.specs.Answer.{pick}
 use Rattle.names.specs.Names.{spelled, responseName, commandName}
+use Rattle.text.specs.Number.{decimal}
 use Rattle.wire.specs.declared.container.Container.{Container}
 use Rattle.recording.specs.Content.{Content, Record}
 use Rattle.recording.specs.Content as content
 
--- ── numbers ──
-
--- how many decimal digits a number has, in at most `fuel` divisions by ten
-unfoldable pub digitsOf : ℕ → ℕ → ℕ
-digitsOf zero n = 1
-digitsOf (suc fuel) n = pick (ltb n 10) 1 (suc (digitsOf fuel (n / 10)))
-
-unfoldable pub decimal : ℕ → List ℕ
-decimal n = digits 10 (digitsOf n n) n
+-- ── parts of a container's line ──
 
 -- like 0x4002
 unfoldable pub hexCode : ℕ → List ℕ
 hexCode code = spelled "0x" ++ digits 16 4 code
-
--- ── parts of a container's line ──
 
 -- a record of kind 1 came from the camera, one of kind 2 went to it
 unfoldable pub wayText : ℕ → List ℕ
@@ -59,13 +50,6 @@ containerLine place kind x = decimal place ++ wayText kind ++ kindText (x .kind)
 -- a note of an old recording: none is written now
 unfoldable pub noteLine : ℕ → ℕ → List ℕ
 noteLine place count = decimal place ++ spelled " old-note " ++ decimal count ++ spelled "\n"
-
--- where the field that failed begins, from the record's start; nothing of a refusal that has no place
-unfoldable pub atText : Told → List ℕ
-atText t = pick (t .placed) (spelled " " ++ decimal (t .at)) []
-
-unfoldable pub refusalLine : ℕ → Told → List ℕ
-refusalLine place t = decimal place ++ spelled " refusal " ++ decimal (t .no) ++ atText t ++ spelled "\n"
 
 unfoldable pub ending : ℕ → ℕ → List ℕ
 ending records count = spelled "records " ++ decimal records ++ spelled " bytes " ++ decimal count ++ spelled "\n"

@@ -5,7 +5,8 @@ use Prim.Native.Nat.{ℕ, suc, _+_}
 use Rattle.layout.specs.Answer.{Answer, got, refused}
 use Rattle.recording.specs.Content.{Record}
 use Rattle.recording.specs.Row.{recordsIn}
-use Rattle.listing.specs.Lines.{heading, recordLine, refusalLine, ending}
+use Rattle.text.specs.Lines.{refusalLine}
+use Rattle.listing.specs.Lines.{heading, recordLine, ending}
 
 -- a line for each that is found, the first of them at a place; and the last line, which counts the whole records, with their headers,
 -- and their bytes, after those that stand before

@@ -1,18 +1,21 @@
--- A turn of a program that lists a recording as it comes: its text, and what it leaves to be done. The program holds a window of the
--- recording and lists what it can of it; what is left then moves to the window's front, and what comes next joins it there.
+-- A turn of a program that lists a recording as it comes: what its step is, of bytes that are held and of the state. What a turn does with the
+-- window, and what a row of turns gives, is said in `turns`, for any step.
 -- Assumes nothing.
 use mathlib.Core.Path.{_≡_}
-use mathlib.Core.Bool.{Bool, false}
-use mathlib.Core.List.{List, _++_}
-use Prim.Native.Nat.{ℕ, _+_, _-_, _%_, _^_}
-use lib.Dec.{ltb, eqb}
-use lib.ListN.{length, take, drop}
+use mathlib.Core.Bool.{Bool}
+use mathlib.Core.List.{List}
+use Prim.Native.Nat.{ℕ}
+use lib.Dec.{ltb}
+use lib.ListN.{length}
 use Rattle.layout.specs.Answer.{pick}
+use Rattle.turns.specs.declared.Hold.{Hold}
+use Rattle.turns.specs.declared.Next.{Next}
+use Rattle.turns.specs.declared.Next.the-variants as next
+use Rattle.turns.specs.Held.{none, joined, rest, fronted}
+use Rattle.turns.specs.Turn.{Step, Stepping, Turned, byStep}
 use Rattle.listing.specs.declared.Tally.{Tally}
 use Rattle.listing.specs.declared.turn.Stage.{Stage}
 use Rattle.listing.specs.declared.turn.Stage.the-variants as stage
-use Rattle.listing.specs.declared.turn.Next.{Next}
-use Rattle.listing.specs.declared.turn.Next.the-variants as next
 use Rattle.listing.specs.declared.turn.Stand.{Stand}
 use Rattle.listing.specs.declared.turn.Turn.{Turn}
 use Rattle.listing.specs.Lines.{heading, ending}
@@ -22,86 +25,60 @@ use Rattle.listing.specs.Window.{Windowed, windowOf}
 abbrev pub size : ℕ
 size = 65536
 
--- ── the window ──
-
--- the bytes that are still to be listed
-unfoldable pub unlisted : List ℕ → ℕ → ℕ → List ℕ
-unlisted window from held = take (held - from) (drop from window)
-
--- bytes at the front, and all past them as it was
-abbrev pub fronted : List ℕ → List ℕ → List ℕ
-fronted bs old = bs ++ drop (length bs) old
-
--- what is left of a window is at its front
-pub record Kept (old : List ℕ) (from held r : ℕ) (new : List ℕ) : Type 0 where
-  pub count : r ≡ length (unlisted old from held)
-  pub leaves : new ≡ fronted (unlisted old from held) old
-
 -- ── where the program stands ──
 
-abbrev pub stood : Stage → ℕ → ℕ → Bool → Tally → Stand
-stood g from held ended tally = record { stage = g; from = from; held = held; ended = ended; tally = tally }
+pub record State : Type 0 where
+  pub stage : Stage
+  pub tally : Tally
 
-abbrev pub fresh : Stand
-fresh = stood stage.Heading 0 0 false (record { place = 0; records = 0 })
+abbrev pub state : Stage → Tally → State
+state g t = record { stage = g; tally = t }
 
--- n bytes came after those that are held; none: the input has ended
-abbrev pub joined : Stand → ℕ → Stand
-joined s n = stood (s .stage) (s .from) ((s .held + n) % 2 ^ 64) (eqb n 0) (s .tally)
+abbrev pub stood : Hold → State → Stand
+stood h s = record { hold = h; stage = s .stage; tally = s .tally }
 
--- ── a turn ──
+abbrev pub fresh : State
+fresh = state stage.Heading (record { place = 0; records = 0 })
 
--- its text, what is to be done after it is written, where the program stands then, and the window
-pub record Turned : Type 0 where
-  pub text : List ℕ
-  pub next : Next
-  pub stand : Stand
-  pub window : List ℕ
+abbrev pub begun : Stand
+begun = stood none fresh
 
-abbrev pub tallied : Windowed → Tally
-tallied w = record { place = w .place; records = w .records }
+abbrev pub joins : Stand → ℕ → Stand
+joins s n = stood (joined (s .hold) n) (state (s .stage) (s .tally))
 
--- the last line is due
-abbrev pub closes : List ℕ → Stand → Windowed → Turned
-closes window s w = record { text = w .text; next = next.Again; stand = stood stage.Ending (s .from) (s .held) (s .ended) (tallied w); window = window }
+-- ── a step ──
 
--- more may be listed
-abbrev pub goesOn : List ℕ → Stand → Windowed → Turned
-goesOn window s w = record { text = w .text; next = next.Again; stand = stood stage.Lines (s .from + w .used) (s .held) (s .ended) (tallied w); window = window }
+abbrev pub stepped : Stage → Next → Windowed → Step State (List ℕ)
+stepped g n w = record { text = w .text; used = w .used; state = state g (record { place = w .place; records = w .records }); next = n }
 
--- more has to come first
-abbrev pub asks : List ℕ → Stand → Windowed → Turned
-asks window s w = record {
-  text = w .text;
-  next = next.Read;
-  stand = stood stage.Lines 0 (length (unlisted window (s .from) (s .held))) false (tallied w);
-  window = fronted (unlisted window (s .from) (s .held)) window;
-}
+-- by what was listed: a refusal ends the lines, and so does the end of the input where nothing is left; else more may be listed, or has to come
+abbrev pub byListed : Bool → Windowed → Step State (List ℕ)
+byListed last w =
+    pick (w .stopped) (stepped stage.Ending next.Again w)
+    (pick (ltb 0 (w .used)) (stepped stage.Lines next.Again w)
+    (pick last (stepped stage.Ending next.Again w) (stepped stage.Lines next.Read w)))
 
--- by what was listed: a refusal ends the lines, and so does the end of the input where nothing is left
-abbrev pub byListed : List ℕ → Stand → Windowed → Turned
-byListed window s w =
-    pick (w .stopped) (closes window s w)
-    (pick (ltb 0 (w .used)) (goesOn window s w)
-    (pick (s .ended) (closes window s w) (asks window s w)))
+unfoldable pub linesOf : Bool → Tally → List ℕ → Step State (List ℕ)
+linesOf last t h = byListed last (windowOf last size h (t .place) (t .records))
 
-unfoldable pub linesTurn : List ℕ → Stand → Turned
-linesTurn window s = byListed window s (windowOf (s .ended) size (unlisted window (s .from) (s .held)) (s .tally .place) (s .tally .records))
+abbrev pub stepAt : Stage → Bool → Tally → List ℕ → Step State (List ℕ)
+stepAt stage.Heading last t h = record { text = heading; used = 0; state = state stage.Lines t; next = next.Again }
+stepAt stage.Lines last t h = linesOf last t h
+stepAt stage.Ending last t h = record { text = ending (t .records) (t .place); used = 0; state = state stage.Ending t; next = next.Stop }
 
-abbrev pub turnAt : Stage → List ℕ → Stand → Turned
-turnAt stage.Heading window s = record { text = heading; next = next.Again; stand = stood stage.Lines (s .from) (s .held) (s .ended) (s .tally); window = window }
-turnAt stage.Lines window s = linesTurn window s
-turnAt stage.Ending window s = record { text = ending (s .tally .records) (s .tally .place); next = next.Stop; stand = stood stage.Ending (s .from) (s .held) (s .ended) (s .tally); window = window }
+unfoldable pub stepOf : Stepping State (List ℕ)
+stepOf last s h = stepAt (s .stage) last (s .tally) h
 
-unfoldable pub turnOf : List ℕ → Stand → Turned
-turnOf window s = turnAt (s .stage) window s
+-- a turn of lines
+abbrev pub linesTurn : List ℕ → Hold → Tally → Turned State (List ℕ)
+linesTurn window h t = byStep window h (rest window (h .from) (h .held)) (linesOf (h .ended) t (rest window (h .from) (h .held)))
 
 -- ── what the code answers, and what it leaves ──
 
 abbrev pub turned : ℕ → Next → Stand → Turn
 turned written n s = record { written = written; next = n; stand = s }
 
-pub record Turns (t : Turned) (out : List ℕ) (r : Turn) (window′ out′ : List ℕ) : Type 0 where
-  pub answers : r ≡ turned (length (t .text)) (t .next) (t .stand)
+pub record Turns (t : Turned State (List ℕ)) (out : List ℕ) (r : Turn) (window′ out′ : List ℕ) : Type 0 where
+  pub answers : r ≡ turned (length (t .text)) (t .next) (stood (t .hold) (t .state))
   pub leaves : out′ ≡ fronted (t .text) out
   pub keeps : window′ ≡ t .window

@@ -9,9 +9,10 @@ use lib.ListN.{length, drop}
 use Rattle.layout.specs.Answer.{Answer, got, refused, pick}
 use Rattle.recording.specs.Content.{Record}
 use Rattle.recording.specs.Record.{recordOf}
-use Rattle.recording.specs.Row.{isCut}
+use Rattle.recording.specs.Row.{waits}
 use Rattle.listing.specs.declared.Listed.{Listed}
-use Rattle.listing.specs.Lines.{recordLine, refusalLine}
+use Rattle.text.specs.Lines.{refusalLine}
+use Rattle.listing.specs.Lines.{recordLine}
 
 -- room that any line has
 abbrev pub lineRoom : ℕ
@@ -38,16 +39,16 @@ abbrev pub lined : ℕ → ℕ → Answer Record → (List ℕ → ℕ → Windo
 lined place records (got x n) rest = after-line (recordLine place x) n (rest (recordLine place x) n)
 lined place records (refused t) rest = record { text = refusalLine place t; used = 0; place = place; records = records; stopped = true }
 
--- no byte is left, or, where the input goes on after the window, the record is cut
-unfoldable pub waits : Bool → List ℕ → Bool
-waits last s = pick (ltb 0 (length s)) (pick last false (isCut s)) true
+-- no byte is left, or the record waits for bytes that follow the window
+unfoldable pub pauses : Bool → List ℕ → Bool
+pauses last s = pick (ltb 0 (length s)) (waits last s) true
 
 -- at most `fuel` records. Places and counts are kept in 64 bits
 unfoldable pub windowFrom : ℕ → Bool → ℕ → List ℕ → ℕ → ℕ → Windowed
 windowFrom zero last room s place records = rests place records
 windowFrom (suc fuel) last room s place records =
     pick (leb lineRoom room)
-    (pick (waits last s) (rests place records)
+    (pick (pauses last s) (rests place records)
     (lined place records (recordOf s) λ line n. windowFrom fuel last (room - length line) (drop n s) ((place + n) % 2 ^ 64) ((records + 1) % 2 ^ 64)))
     (rests place records)
 

@@ -3,7 +3,7 @@ ghost use Prim.Native.Nat.{_+_, _≤_, _<_};
 ghost use lib.ListN.{length};
 ghost use Rattle.io.specs.Digits.{digits};
 ghost use Rattle.layout.specs.Written.{Put};
-ghost use Rattle.listing.specs.Lines.{decimal};
+ghost use Rattle.text.specs.Number.{decimal};
 
 fn put_one(n: u64, out: &mut [u8], at: usize) -> usize
     requires { ⌜ at + 1 ≤ length (now out) ⌝ }

@@ -5,20 +5,17 @@ ghost use Rattle.layout.specs.Written.{Wrote, says, saysWritten};
 ghost use Rattle.names.specs.Names.{nameBytes};
 ghost use Rattle.listing.specs.Lines.{heading, ending};
 ghost use Rattle.listing.specs.Window.{answered, windowOf, Lists};
-ghost use Rattle.listing.specs.Window.{waits as Window·waits};
 
 mod decimal;
 mod line;
 mod turn;
 
 use layout::Written;
-use recording::ReadRecord;
-pub use turn::Next;
+use recording::ReadFront;
 pub use turn::Stage;
 pub use turn::Stand;
 pub use turn::Turn;
 pub use turn::join;
-pub use turn::keep;
 pub use turn::start;
 pub use turn::take_turn;
 
@@ -49,19 +46,6 @@ pub fn write_heading(out: &mut [u8]) -> Written
     Written::Done(line::put_heading(out))
 }
 
-// Nothing more is to be listed of these bytes now.
-fn waits(s: &[u8], last: bool) -> bool
-    ensures { λ r. ⌜ r ≡ Window·waits last (now (s .entry)) ⌝ }
-{
-    if s.len() == 0 {
-        return true;
-    }
-    if last {
-        return false;
-    }
-    recording::is_cut(s)
-}
-
 fn answer(used: usize, written: usize, place: u64, records: u64, stopped: bool) -> Listed
     ensures { λ r. ⌜ r ≡ answered used written place records stopped ⌝ }
 {
@@ -83,19 +67,22 @@ fn list_from(s: &[u8], last: bool, start: u64, count: u64, names: &[u8], out: &m
     let mut records = count;
     while out.len() - written >= LINE_ROOM {
         let part = &s[used..];
-        match recording::read_record(part) {
-            ReadRecord::Got(x, next) => {
+        match recording::read_front(part, last) {
+            ReadFront::Got(x, next) => {
                 let taken = next.at;
                 written = line::put_record(place, x, names, out, written);
                 used += taken;
                 place = std::num::wrapping_add_u64(place, taken as u64);
                 records = std::num::wrapping_add_u64(records, 1);
             }
-            ReadRecord::Refused(f) => {
-                if waits(part, last) {
+            ReadFront::Cut(_) => {
+                return answer(used, written, place, records, false);
+            }
+            ReadFront::Refused(f) => {
+                if part.len() == 0 {
                     return answer(used, written, place, records, false);
                 }
-                written = line::put_refusal(place, f, out, written);
+                written = text::put_refusal(place, f, out, written);
                 return answer(used, written, place, records, true);
             }
         }

@@ -6,9 +6,8 @@ ghost use Rattle.layout.specs.Written.{Put};
 ghost use Rattle.names.specs.Names.{nameBytes, given};
 ghost use Rattle.names.specs.Says.{saysName, bytesAt, Inside};
 ghost use Rattle.recording.specs.Record.{recordFrom};
-ghost use Rattle.listing.specs.Lines.{heading, decimal, hexCode, wayText, kindText, nameFor, codeText, countsText, containerLine, noteLine, atText, refusalLine, recordLine, ending};
+ghost use Rattle.listing.specs.Lines.{heading, hexCode, wayText, kindText, nameFor, codeText, countsText, containerLine, noteLine, recordLine, ending};
 use crate::decimal;
-use layout::Refusal;
 use names::Name;
 use recording::Content;
 use recording::Record;
@@ -146,29 +145,6 @@ fn put_note(place: u64, count: u64, out: &mut [u8], at: usize) -> usize
     let b = put_bytes(b" old-note ", out, a);
     let c = decimal::put(count, out, b);
     put_bytes(b"\n", out, c)
-}
-
-// The place that a refusal tells, behind a space; nothing of one that tells none.
-fn put_at(f: Refusal, out: &mut [u8], at: usize) -> usize
-    requires { ⌜ at + length (atText f) ≤ length (now out) ⌝ }
-    ensures { λ r. ⌜ Put (now (out .entry)) at (atText f) (now (out .exit)) r ⌝ }
-{
-    if !f.placed {
-        return at;
-    }
-    let a = put_bytes(b" ", out, at);
-    decimal::put(f.at as u64, out, a)
-}
-
-pub(crate) fn put_refusal(place: u64, f: Refusal, out: &mut [u8], at: usize) -> usize
-    requires { ⌜ at + length (refusalLine place f) ≤ length (now out) ⌝ }
-    ensures { λ r. ⌜ Put (now (out .entry)) at (refusalLine place f) (now (out .exit)) r ⌝ }
-{
-    let a = decimal::put_place(place, out, at);
-    let b = put_bytes(b" refusal ", out, a);
-    let c = decimal::put(f.no as u64, out, b);
-    let d = put_at(f, out, c);
-    put_bytes(b"\n", out, d)
 }
 
 pub(crate) fn put_record(place: u64, x: Record, names: &[u8], out: &mut [u8], at: usize) -> usize

@@ -1,12 +1,16 @@
 // The turns of a program that lists a recording as it comes: what to write, and then whether to go on, to read or to stop. The program does
-// what it is told and reckons nothing: specs/Turn.antt says what a turn is, specs/Run.antt what a row of turns prints.
+// what it is told and reckons nothing: specs/Turn.antt says what a turn is; what a row of turns gives stands in `turns`.
 ghost use mathlib.Core.Path.{_≡_};
 ghost use lib.ListN.{length};
+ghost use Rattle.turns.specs.Held.{holds, rest};
+ghost use Rattle.turns.specs.Turn.{turnOf};
 ghost use Rattle.listing.specs.Window.{windowOf, Lists};
-ghost use Rattle.listing.specs.Turn.{unlisted, Kept, Turns, fresh, joined, turned, stood, linesTurn, turnOf};
+ghost use Rattle.listing.specs.Turn.{Turns, begun, joins, turned, stood, state, stepOf, linesTurn};
 use crate::Listed;
 use crate::Tally;
 use crate::line;
+use turns::Hold;
+use turns::Next;
 
 // What the next turn writes.
 pub enum Stage {
@@ -15,19 +19,10 @@ pub enum Stage {
     Ending,
 }
 
-// What is to be done after a turn's text is written: take the next turn, or read into the window from `held` on before it, or stop.
-pub enum Next {
-    Again,
-    Read,
-    Stop,
-}
-
-// The bytes of the window from `from` up to `held` are still to be listed; `ended` says that no more will come.
+// What is held of the window is still to be listed.
 pub struct Stand {
+    pub hold: Hold,
     pub stage: Stage,
-    pub from: usize,
-    pub held: usize,
-    pub ended: bool,
     pub tally: Tally,
 }
 
@@ -40,13 +35,12 @@ pub struct Turn {
 
 // Before the first turn.
 pub fn start() -> Stand
-    ensures { λ r. ⌜ r ≡ fresh ⌝ }
+    ensures { λ r. ⌜ r ≡ begun ⌝ }
 {
+    let hold = turns::nothing();
     Stand {
+        hold,
         stage: Stage::Heading,
-        from: 0,
-        held: 0,
-        ended: false,
         tally: Tally {
             place: 0,
             records: 0,
@@ -56,41 +50,12 @@ pub fn start() -> Stand
 
 // After n bytes came where the turn said, or none: the input has ended.
 pub fn join(s: Stand, n: usize) -> Stand
-    ensures { λ r. ⌜ r ≡ joined s n ⌝ }
+    ensures { λ r. ⌜ r ≡ joins s n ⌝ }
 {
+    let hold = turns::join(s.hold, n);
     let stage = s.stage;
     let tally = s.tally;
-    Stand {
-        stage,
-        from: s.from,
-        held: std::num::wrapping_add_usize(s.held, n),
-        ended: n == 0,
-        tally,
-    }
-}
-
-// Moves the bytes from `from` up to `held` to the window's front: how many they are.
-pub fn keep(window: &mut [u8], from: usize, held: usize) -> usize
-    ensures { λ r. ⌜ Kept (now (window .entry)) from held r (now (window .exit)) ⌝ }
-{
-    let end = layout::least(held, window.len());
-    let mut i = 0;
-    let mut j = from;
-    while j < end {
-        window[i] = window[j];
-        i += 1;
-        j += 1;
-    }
-    i
-}
-
-// The bytes that are still to be listed.
-fn rest_of(window: &[u8], from: usize, held: usize) -> &[u8]
-    ensures { λ r. ⌜ now r ≡ unlisted (now (window .entry)) from held ⌝ }
-{
-    let end = layout::least(held, window.len());
-    let start = layout::least(from, end);
-    &window[start..end]
+    Stand { hold, stage, tally }
 }
 
 fn list_held(
@@ -101,21 +66,16 @@ fn list_held(
     tally: Tally,
     out: &mut [u8],
 ) -> Listed
-    ensures { λ r. ⌜ Lists (windowOf last (length (now (out .entry))) (unlisted (now (window .entry)) from held) (tally .place) (tally .records)) (now (out .entry)) r (now (out .exit)) ⌝ }
+    ensures { λ r. ⌜ Lists (windowOf last (length (now (out .entry))) (rest (now (window .entry)) from held) (tally .place) (tally .records)) (now (out .entry)) r (now (out .exit)) ⌝ }
 {
-    crate::list_window(rest_of(window, from, held), last, tally, out)
+    crate::list_window(turns::rest_of(window, from, held), last, tally, out)
 }
 
-fn standing(stage: Stage, from: usize, held: usize, ended: bool, tally: Tally) -> Stand
-    ensures { λ r. ⌜ r ≡ stood stage from held ended tally ⌝ }
+fn standing(from: usize, held: usize, ended: bool, stage: Stage, tally: Tally) -> Stand
+    ensures { λ r. ⌜ r ≡ stood (holds from held ended) (state stage tally) ⌝ }
 {
-    Stand {
-        stage,
-        from,
-        held,
-        ended,
-        tally,
-    }
+    let hold = Hold { from, held, ended };
+    Stand { hold, stage, tally }
 }
 
 fn answer(written: usize, next: Next, stand: Stand) -> Turn
@@ -129,48 +89,48 @@ fn answer(written: usize, next: Next, stand: Stand) -> Turn
 }
 
 // A turn of lines: those that have room are listed; where none can be, more is to be read after what is left.
-fn lines_turn(s: Stand, window: &mut [u8; 65536], out: &mut [u8; 65536]) -> Turn
-    ensures { λ r. ⌜ Turns (linesTurn (now (window .entry)) s) (now (out .entry)) r (now (window .exit)) (now (out .exit)) ⌝ }
+fn lines_turn(hold: Hold, tally: Tally, window: &mut [u8; 65536], out: &mut [u8; 65536]) -> Turn
+    ensures { λ r. ⌜ Turns (linesTurn (now (window .entry)) hold tally) (now (out .entry)) r (now (window .exit)) (now (out .exit)) ⌝ }
 {
-    let from = s.from;
-    let held = s.held;
-    let ended = s.ended;
-    let tally = s.tally;
-    let done = list_held(window, from, held, ended, tally, out);
+    let held = hold.held;
+    let ended = hold.ended;
+    let done = list_held(window, hold.from, held, ended, tally, out);
+    let from = hold.from + done.used;
     let after = done.tally;
     if done.stopped {
         return answer(
             done.written,
             Next::Again,
-            standing(Stage::Ending, from, held, ended, after),
+            standing(from, held, ended, Stage::Ending, after),
         );
     }
     if done.used > 0 {
         return answer(
             done.written,
             Next::Again,
-            standing(Stage::Lines, from + done.used, held, ended, after),
+            standing(from, held, ended, Stage::Lines, after),
         );
     }
     if ended {
         return answer(
             done.written,
             Next::Again,
-            standing(Stage::Ending, from, held, ended, after),
+            standing(from, held, ended, Stage::Ending, after),
         );
     }
-    let kept = keep(window, from, held);
+    let kept = turns::keep(window, from, held);
     answer(
         done.written,
         Next::Read,
-        standing(Stage::Lines, 0, kept, false, after),
+        standing(0, kept, false, Stage::Lines, after),
     )
 }
 
 // One turn. Its text stands at the front of the output, whose other bytes are as they were.
 pub fn take_turn(s: Stand, window: &mut [u8; 65536], out: &mut [u8; 65536]) -> Turn
-    ensures { λ r. ⌜ Turns (turnOf (now (window .entry)) s) (now (out .entry)) r (now (window .exit)) (now (out .exit)) ⌝ }
+    ensures { λ r. ⌜ Turns (turnOf stepOf (now (window .entry)) (s .hold) (state (s .stage) (s .tally))) (now (out .entry)) r (now (window .exit)) (now (out .exit)) ⌝ }
 {
+    let hold = s.hold;
     let stage = s.stage;
     let tally = s.tally;
     match stage {
@@ -179,16 +139,16 @@ pub fn take_turn(s: Stand, window: &mut [u8; 65536], out: &mut [u8; 65536]) -> T
             answer(
                 n,
                 Next::Again,
-                standing(Stage::Lines, s.from, s.held, s.ended, tally),
+                standing(hold.from, hold.held, hold.ended, Stage::Lines, tally),
             )
         }
-        Stage::Lines => lines_turn(s, window, out),
+        Stage::Lines => lines_turn(hold, tally, window, out),
         Stage::Ending => {
             let n = line::put_ending(tally.records, tally.place, out);
             answer(
                 n,
                 Next::Stop,
-                standing(Stage::Ending, s.from, s.held, s.ended, tally),
+                standing(hold.from, hold.held, hold.ended, Stage::Ending, tally),
             )
         }
     }

@@ -16,10 +16,10 @@ use Rattle.layout.proofs.laws.Numbers.{zero-one}
 use Rattle.wire.specs.declared.Part.{Part}
 use Rattle.recording.specs.Content.{Record}
 use Rattle.recording.specs.Record.{recordOf}
+use Rattle.recording.specs.Row.{waits}
 use Rattle.recording.proofs.laws.Rowed.{Stands, record-stands}
 use Rattle.mending.specs.declared.search.Run.{Run}
 use Rattle.mending.specs.Mended.{part, Piece, kept, dropped, pieced, cutFrom, cutAt, keptIn, keptOf, partsOf, mendSaid, stretch, joinedIn, droppedOf}
-use Rattle.mending.specs.Window.{waits}
 use Rattle.mending.specs.Passed.{Drops, none-dropped, one-dropped, Keeps, none-kept, one-kept, Held, at-end, waiting, stands, Ended, no-bytes, stands-none, no-room, Gap, Row}
 use Rattle.mending.proofs.Sweeping.{drops-least, keeps-least, keeps-none, some-bytes}
 

@@ -1,11 +1,14 @@
+pub mod laws
 pub mod Searching
 pub mod Stretched
 pub mod Sweeping
 pub mod Going
 pub mod Cutting
 pub mod Whole
-pub mod Laws
+pub mod MendedExact
 pub mod Windows
+pub mod Reporting
 pub mod Turning
 pub mod Runs
-pub mod Ends
+pub mod Room
+pub mod Example

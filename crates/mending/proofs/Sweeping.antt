@@ -17,10 +17,11 @@ use Rattle.layout.proofs.laws.Numbers.{zero-one}
 use Rattle.wire.specs.declared.Part.{Part}
 use Rattle.recording.specs.Content.{Record}
 use Rattle.recording.specs.Record.{recordOf}
+use Rattle.recording.specs.Row.{waits}
 use Rattle.recording.proofs.laws.Rowed.{Stands, record-stands, whole-uncut}
 use Rattle.mending.specs.declared.window.Tally.{Tally}
 use Rattle.mending.specs.declared.search.Run.{Run}
-use Rattle.mending.specs.Window.{tally, fresh, keeps, drops, opened, sane, Windowed, rests, before, closes, waits, judged, sweepFrom, sweepOf}
+use Rattle.mending.specs.Window.{tally, fresh, keeps, drops, opened, sane, Windowed, rests, before, closes, judged, sweepFrom, sweepOf}
 use Rattle.mending.specs.Passed.{Drops, none-dropped, one-dropped, Keeps, none-kept, one-kept, Held, at-end, waiting, stands, Ended, no-bytes, stands-none, no-room, Row}
 
 -- ── tallies ──

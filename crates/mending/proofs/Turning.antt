@@ -1,56 +1,31 @@
--- Laws of a turn: where what is held lies, how it moves to the front, and which of the turn's cases holds.
+-- Laws of a turn: how much is used, and which of the turn's cases holds.
 -- Assumes nothing.
 use mathlib.Core.Path.{_≡_, refl, sym, ap, _∙_}
 use mathlib.Core.Bool.{Bool, true, false}
 use mathlib.Core.List.{List, _++_}
 use Prim.Native.Nat.{ℕ, _+_, _-_, _%_, _^_, _≤_, _<_}
-use native.Mathlib.Nat.{zero-add}
 use native.Mathlib.Omega.{arith}
-use borrow.Author.Tests.{leb-true, leb-false, le-leb, lt-leb}
+use borrow.Author.Tests.{leb-true, leb-false}
 use lib.Dec.{leb}
-use lib.ListN.{length, take, drop, length-drop}
-use lib.Seq.{length-take-le, take-at}
-use Rattle.layout.specs.Answer.{pick}
-use Rattle.layout.specs.Written.{Put, roomed}
-use Rattle.layout.proofs.laws.Numbers.{zero-one}
-use Rattle.layout.proofs.laws.Writing.{roomy, put-front}
+use lib.ListN.{length, take, drop, length-append, length-drop, length-map}
+use lib.Seq.{take-append-seam}
+use Rattle.layout.specs.Written.{Put}
+use Rattle.turns.specs.declared.Hold.{Hold}
+use Rattle.turns.specs.declared.Next.the-variants as next
+use Rattle.turns.specs.Held.{holds, rest, Kept, fronted}
+use Rattle.turns.specs.Turn.{byStep}
+use Rattle.turns.proofs.laws.Running.{rest-most, rest-less}
+use Rattle.turns.proofs.laws.Fronting.{put-fronted}
+use Rattle.recording.specs.Row.{waits}
 use Rattle.mending.specs.declared.window.Tally.{Tally}
 use Rattle.mending.specs.declared.window.Swept.{Swept}
-use Rattle.mending.specs.declared.turn.Next.the-variants as next
-use Rattle.mending.specs.declared.turn.Stand.{Stand}
-use Rattle.mending.specs.Mended.{fronted}
-use Rattle.mending.specs.Window.{keeps, drops, opened, Windowed, rests, waits, sane, sweepOf, windowOf, Sweeps}
-use Rattle.mending.specs.Turn.{size, stood, lies, unmended, wentOn, byMended, mendedIn, turnOf, turned, Turns}
+use Rattle.mending.specs.Mended.{least, startsOf, lengthsOf}
+use Rattle.mending.specs.Report.{linesOf, stretchLines}
+use Rattle.mending.specs.Window.{keeps, drops, opened, Windowed, rests, sane, sweepOf, windowOf, Sweeps}
+use Rattle.mending.specs.Turn.{size, slots, State, state, stood, wentOn, after-mending, lastLine, stepped, byMended, turned, Turns}
 use Rattle.mending.proofs.Sweeping.{sweep-none, sweep-waits, sweep-refused, sweep-got, sweep-room, sweep-slots}
-use Rattle.mending.proofs.Going.{window-not, window-so, closes-rest}
+use Rattle.mending.proofs.Going.{least-same, window-not, window-so, closes-rest}
 use Rattle.mending.proofs.Cutting.{by-pieces}
-
--- ── what is held ──
-
-pub lies-so : (s : Stand) → lies s ≡ true → (s .held ≤ size) × (s .from ≤ s .held)
-unfolding lies
-lies-so s e = go (leb (s .held) size) refl e
-  where
-    go : (b : Bool) → leb (s .held) size ≡ b → pick b (leb (s .from) (s .held)) false ≡ true → (s .held ≤ size) × (s .from ≤ s .held)
-    go true f e = (leb-true (s .held) size f, leb-true (s .from) (s .held) e)
-    go false f e = zero-one (cc)
-
-pub lies-out : (s : Stand) → size < s .held → false ≡ lies s
-unfolding lies
-lies-out s h = rw (lt-leb (s .held) size h)
-
-pub lies-by : (s : Stand) → s .held ≤ size → leb (s .from) (s .held) ≡ lies s
-unfolding lies
-lies-by s h = rw (le-leb (s .held) size h)
-
-pub lies-both : (s : Stand) → s .held ≤ size → s .from ≤ s .held → lies s ≡ true
-lies-both s h k = sym (lies-by s h) ∙ le-leb (s .from) (s .held) k
-
-pub held-long : (window : List ℕ) (s : Stand) → lies s ≡ true → length window ≡ size → length (unmended window (s .from) (s .held)) ≡ s .held - s .from
-unfolding unmended
-held-long window s e long =
-    let l = lies-so s e in
-    length-take-le (s .held - s .from) (drop (s .from) window) (omega (arith, l .0, l .1, length-drop (s .from) window))
 
 -- ── no more than the window is used ──
 
@@ -93,47 +68,86 @@ module _ (last : Bool) where
       go true e = rw (window-so last room slots s t e) (within 0 s room slots t)
       go false e = rw (window-not last room slots s t e) (omega arith)
 
--- ── to the front ──
-
-pub moved-front : (window out : List ℕ) (s : Stand) {out′ window′ : List ℕ} {m r : ℕ} → lies s ≡ true → length window ≡ size → length out ≡ size →
-    Put out 0 (roomed out 0 (take (s .held - s .from) (drop (s .from) window))) out′ m → Put window 0 (roomed window 0 (take (s .held - s .from) out′)) window′ r →
-    (r ≡ length (unmended window (s .from) (s .held))) × (out′ ≡ fronted (unmended window (s .from) (s .held)) out) × (window′ ≡ fronted (unmended window (s .from) (s .held)) window)
-unfolding unmended
-moved-front window out s {out′} {window′} {m} {r} e long wide p q =
-    let l = lies-so s e in
-    let n = s .held - s .from in
-    let bs = take n (drop (s .from) window) in
-    let size-so : length bs ≡ n = length-take-le n (drop (s .from) window) (omega (arith, l .0, l .1, length-drop (s .from) window)) in
-    let first = roomy bs p (omega (arith, size-so, l .0)) in
-    let there : out′ ≡ fronted bs out = first .bytes ∙ put-front out bs (omega (arith, size-so, l .0)) in
-    let same : take n out′ ≡ bs = ap (take n) there ∙ take-at bs (drop (length bs) out) n size-so in
-    let second = roomy bs (rw same at q) (omega (arith, size-so, l .0)) in
-    (second .place ∙ zero-add (length bs), there, second .bytes ∙ put-front window bs (omega (arith, size-so, l .0)))
-
 -- ── a turn, by what was mended ──
 
-module _ {w : Windowed} (window : List ℕ) {out starts lengths out′ starts′ lengths′ : List ℕ} (s : Stand) {done : Swept} {all : ℕ} (l : Sweeps w out starts lengths done out′ starts′ lengths′) (a : all ≡ (s .stretches + done .stretches) % 2 ^ 64) where
+-- the step is one of three
+module _ (last : Bool) (s : State) (w : Windowed) where
+  goes-so : wentOn (w .used) (length (w .told)) ≡ true → byMended last s w ≡ stepped next.Again s w
+  goes-so e = rw e
+
+  ends-so : wentOn (w .used) (length (w .told)) ≡ false → last ≡ true → byMended last s w ≡ stepped next.Stop s w
+  ends-so e f = rw (e, f)
+
+  asks-so : wentOn (w .used) (length (w .told)) ≡ false → last ≡ false → byMended last s w ≡ stepped next.Read s w
+  asks-so e f = rw (e, f)
+
+module _ (window : List ℕ) {out starts lengths out′ starts′ lengths′ : List ℕ} (h : Hold) (s : State) {done : Swept} (room : length out ≡ size) (one : length starts ≡ slots) (two : length lengths ≡ slots)
+    (l : Sweeps (windowOf (h .ended) (length out) (least (length starts) (length lengths)) (rest window (h .from) (h .held)) (s .tally)) out starts lengths done out′ starts′ lengths′) where
+  abbrev bs : List ℕ
+  bs = rest window (h .from) (h .held)
+
+  abbrev w : Windowed
+  w = windowOf (h .ended) size slots bs (s .tally)
+
+  sweeps : Sweeps w out starts lengths done out′ starts′ lengths′
+  sweeps = let least-so = least-same one two in rw (room, least-so) at l
+
+  used-so : done .used ≡ w .used
+  used-so = ap (λ (d : Swept). d .used) (sweeps .answers)
+
+  used-within : done .used ≤ length bs
+  used-within = omega (arith, used-so, used-most (h .ended) size slots bs (s .tally))
+
+  -- no more than the window has after the place
+  pub used-fits : done .used ≤ length window - h .from
+  used-fits = omega (arith, used-within, rest-most window (h .from) (h .held))
+
   went : {b : Bool} → wentOn (done .used) (done .stretches) ≡ b → wentOn (w .used) (length (w .told)) ≡ b
-  went e = ap (λ (d : Swept). wentOn (d .used) (d .stretches)) (sym (l .answers)) ∙ e
+  went e = ap (λ (d : Swept). wentOn (d .used) (d .stretches)) (sym (sweeps .answers)) ∙ e
 
-  pub turn-goes : wentOn (done .used) (done .stretches) ≡ true →
-      Turns (byMended window out s w) starts lengths (turned (done .written) (done .stretches) next.Again (stood (s .from + done .used) (s .held) (s .ended) all (done .tally))) window out′ starts′ lengths′
-  turn-goes e = rw (went e) (record { answers = rw (a, l .answers); keeps = refl; bytes = l .bytes; starts-so = l .starts-so; lengths-so = l .lengths-so })
+  -- ── its stretches stand at the fronts of the two lists ──
 
-  pub turn-ends : wentOn (done .used) (done .stretches) ≡ false → s .ended ≡ true →
-      Turns (byMended window out s w) starts lengths (turned (done .written) (done .stretches) next.Stop (stood (s .from) (s .held) (s .ended) all (done .tally))) window out′ starts′ lengths′
-  turn-ends e f = rw (went e, f) (record { answers = rw (a, l .answers); keeps = refl; bytes = l .bytes; starts-so = l .starts-so; lengths-so = l .lengths-so })
+  count : done .stretches ≡ length (w .told)
+  count = ap (λ (d : Swept). d .stretches) (sweeps .answers)
 
-  pub turn-asks : {window′ out″ : List ℕ} {kept : ℕ} → wentOn (done .used) (done .stretches) ≡ false → s .ended ≡ false →
-      (kept ≡ length (unmended window (s .from) (s .held))) × (out″ ≡ fronted (unmended window (s .from) (s .held)) out′) × (window′ ≡ fronted (unmended window (s .from) (s .held)) window) →
-      Turns (byMended window out s w) starts lengths (turned (done .written) (done .stretches) next.Read (stood 0 kept false all (done .tally))) window′ out″ starts′ lengths′
-  turn-asks e f m = rw (went e, f) (record { answers = rw (a, l .answers, m .0); keeps = m .2; bytes = m .1 ∙ ap (fronted (unmended window (s .from) (s .held))) (l .bytes); starts-so = l .starts-so; lengths-so = l .lengths-so })
+  -- the lists have room for them
+  pub told-fits : (done .stretches ≤ length starts′) × (done .stretches ≤ length lengths′)
+  told-fits = (
+    omega (arith, count, ap length (sweeps .starts-so), length-append (startsOf (w .told)) (drop (length (startsOf (w .told))) starts), length-map (w .told) (λ p. p .start)),
+    omega (arith, count, ap length (sweeps .lengths-so), length-append (lengthsOf (w .told)) (drop (length (lengthsOf (w .told))) lengths), length-map (w .told) (λ p. p .count)),
+  )
 
-module _ (window out : List ℕ) (s : Stand) where
-  pub turn-not : (starts lengths : List ℕ) {r : _} → lies s ≡ false → r ≡ turned 0 0 next.Stop s → Turns (turnOf window out s) starts lengths r window out starts lengths
-  unfolding turnOf
-  turn-not starts lengths e f = rw e (record { answers = f; keeps = refl; bytes = refl; starts-so = refl; lengths-so = refl })
+  starts-told : take (done .stretches) starts′ ≡ startsOf (w .told)
+  starts-told = ap (λ k. take k starts′) (count ∙ sym (length-map (w .told) (λ p. p .start))) ∙ ap (take (length (startsOf (w .told)))) (sweeps .starts-so) ∙ take-append-seam (startsOf (w .told)) (drop (length (startsOf (w .told))) starts)
 
-  pub turn-lies : lies s ≡ true → turnOf window out s ≡ byMended window out s (mendedIn window s)
-  unfolding turnOf
-  turn-lies e = rw e
+  lengths-told : take (done .stretches) lengths′ ≡ lengthsOf (w .told)
+  lengths-told = ap (λ k. take k lengths′) (count ∙ sym (length-map (w .told) (λ p. p .count))) ∙ ap (take (length (lengthsOf (w .told)))) (sweeps .lengths-so) ∙ take-append-seam (lengthsOf (w .told)) (drop (length (lengthsOf (w .told))) lengths)
+
+  lines-told : linesOf (take (done .stretches) starts′) (take (done .stretches) lengths′) ≡ stretchLines (w .told)
+  lines-told = ap (λ v. linesOf v (take (done .stretches) lengths′)) starts-told ∙ ap (linesOf (startsOf (w .told))) lengths-told
+
+  module _ {all : ℕ} (a : all ≡ (s .stretches + done .stretches) % 2 ^ 64) where
+    pub turn-goes : {n : ℕ} {report report′ : List ℕ} → wentOn (done .used) (done .stretches) ≡ true → Put report 0 (linesOf (take (done .stretches) starts′) (take (done .stretches) lengths′)) report′ n → n ≤ length report →
+        Turns (byStep window h bs (byMended (h .ended) s w)) out starts lengths report (turned (done .written) n next.Again (stood (holds (h .from + done .used) (h .held) (h .ended)) (state all (done .tally)))) window out′ starts′ lengths′ report′
+    turn-goes {report = report} e p fits =
+        let q = put-fronted (omega (arith, p .place)) p in
+        let n-so = q .0 ∙ ap length lines-told in
+        rw (goes-so (h .ended) s w (went e)) (record { answers = rw (a, n-so, sweeps .answers); keeps = refl; bytes = sweeps .bytes; starts-so = sweeps .starts-so; lengths-so = sweeps .lengths-so; tells = q .1 ∙ ap (λ v. fronted v report) lines-told })
+
+    stands : state all (done .tally) ≡ after-mending s w
+    stands = rw (a, sweeps .answers)
+
+    pub turn-ends : {n : ℕ} {report report′ : List ℕ} → wentOn (done .used) (done .stretches) ≡ false → h .ended ≡ true → Put report 0 (lastLine (state all (done .tally))) report′ n → n ≤ length report →
+        Turns (byStep window h bs (byMended (h .ended) s w)) out starts lengths report (turned (done .written) n next.Stop (stood h (state all (done .tally)))) window out′ starts′ lengths′ report′
+    turn-ends {report = report} e f p fits =
+        let q = put-fronted (omega (arith, p .place)) p in
+        let n-so = q .0 ∙ ap (λ v. length (lastLine v)) stands in
+        rw (ends-so (h .ended) s w (went e) f) (record { answers = rw (a, n-so, sweeps .answers); keeps = refl; bytes = sweeps .bytes; starts-so = sweeps .starts-so; lengths-so = sweeps .lengths-so; tells = q .1 ∙ ap (λ v. fronted (lastLine v) report) stands })
+
+    pub turn-asks : {window′ report : List ℕ} {kept : ℕ} → wentOn (done .used) (done .stretches) ≡ false → h .ended ≡ false → Kept window (h .from + done .used) (h .held) kept window′ →
+        Turns (byStep window h bs (byMended (h .ended) s w)) out starts lengths report (turned (done .written) 0 next.Read (stood (holds 0 kept false) (state all (done .tally)))) window′ out′ starts′ lengths′ report
+    turn-asks e f k =
+        let r = rest-less window (h .from) (h .held) (done .used) used-within ∙ ap (λ n. drop n bs) used-so in
+        let kept-so = k .count ∙ ap length r in
+        let leaves = k .leaves ∙ ap (λ v. fronted v window) r in
+        rw (asks-so (h .ended) s w (went e) f) (record { answers = rw (a, sweeps .answers, kept-so); keeps = leaves; bytes = sweeps .bytes; starts-so = sweeps .starts-so; lengths-so = sweeps .lengths-so; tells = refl })

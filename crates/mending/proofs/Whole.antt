@@ -15,11 +15,13 @@ use Rattle.layout.proofs.laws.Accepted.{Accepts}
 use Rattle.layout.proofs.laws.Reading.{pick-alike}
 use Rattle.recording.specs.Content.{Record}
 use Rattle.recording.specs.Record.{recordOf}
+use Rattle.recording.specs.Row.{waits}
 use Rattle.recording.proofs.laws.Rowed.{Stands, record-stands}
 use Rattle.mending.specs.declared.window.Tally.{Tally}
 use Rattle.mending.specs.declared.window.Swept.{Swept}
-use Rattle.mending.specs.Mended.{mendSaid, droppedOf, startsOf, lengthsOf, least, fronted, hasRoom, mendOf, Mends}
-use Rattle.mending.specs.Window.{fresh, keeps, drops, opened, Windowed, waits, sweepOf, Sweeps}
+use Rattle.turns.specs.Held.{fronted}
+use Rattle.mending.specs.Mended.{mendSaid, droppedOf, startsOf, lengthsOf, least, hasRoom, mendOf, Mends}
+use Rattle.mending.specs.Window.{fresh, keeps, drops, opened, Windowed, sweepOf, Sweeps}
 use Rattle.mending.proofs.Sweeping.{sweep-none, sweep-refused, sweep-got}
 use Rattle.mending.proofs.Going.{closes-so}
 use Rattle.mending.proofs.Cutting.{text, told, text-whole, told-whole, text-none, told-none, text-got, told-got, text-refused, told-refused}

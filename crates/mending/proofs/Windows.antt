@@ -16,12 +16,12 @@ use Rattle.layout.proofs.laws.Accepted.{accepted}
 use Rattle.wire.specs.declared.Part.{Part}
 use Rattle.recording.specs.Content.{Record}
 use Rattle.recording.specs.Record.{limit, recordOf}
-use Rattle.recording.specs.Row.{isCut}
+use Rattle.recording.specs.Row.{isCut, waits}
 use Rattle.recording.proofs.laws.Rowed.{Stands, record-stands, uncut-same, cut-short, whole-uncut}
 use Rattle.recording.proofs.laws.Fronted.{record-most}
 use Rattle.mending.specs.declared.window.Tally.{Tally}
 use Rattle.mending.specs.Mended.{part, keptOf, mendSaid, stretch, droppedOf}
-use Rattle.mending.specs.Window.{tally, fresh, keeps, drops, closed, opened, Windowed, rests, before, closes, waits, sane, sweepOf, windowOf}
+use Rattle.mending.specs.Window.{tally, fresh, keeps, drops, closed, opened, Windowed, rests, before, closes, sane, sweepOf, windowOf}
 use Rattle.mending.specs.InWindows.{InWindows, ends, goes}
 use Rattle.mending.proofs.Sweeping.{Sound, sound-drops, sound-keeps, sane-by, sweep-none, sweep-waits, sweep-refused, sweep-got, sweep-room, sweep-slots}
 use Rattle.mending.proofs.Going.{closes-not, closes-so, window-so}

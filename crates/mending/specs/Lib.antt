@@ -3,5 +3,6 @@ pub mod Window
 pub mod Passed
 pub mod Laid
 pub mod InWindows
+pub mod Report
 pub mod Turn
-pub mod Run
+pub mod Room

@@ -11,6 +11,7 @@ use Rattle.layout.specs.Answer.{Answer, got, refused, bare, pick}
 use Rattle.layout.specs.Refusals.{ROOM}
 use Rattle.wire.specs.Returned.{partOf}
 use Rattle.wire.specs.declared.Part.{Part}
+use Rattle.turns.specs.Held.{fronted}
 use Rattle.recording.specs.Content.{Record}
 use Rattle.recording.specs.Record.{recordOf}
 use Rattle.mending.specs.declared.Mended.{Mended}
@@ -95,10 +96,6 @@ hasRoom s room slots = pick (leb (length (mendSaid s)) room) (leb (length (dropp
 -- how many bytes were written, and how many stretches; or 9
 unfoldable pub mendOf : List ℕ → Bool → Answer ℕ
 mendOf s roomy = pick roomy (got (length (droppedOf s)) (length (mendSaid s))) (refused (bare ROOM))
-
--- at the front, and all past it as it was
-abbrev pub fronted : List ℕ → List ℕ → List ℕ
-fronted bs old = bs ++ drop (length bs) old
 
 pub record Mends (s out starts lengths : List ℕ) (answer : Answer ℕ) (out′ starts′ lengths′ : List ℕ) : Type 0 where
   pub answers : answer ≡ mendOf s (hasRoom s (length out) (least (length starts) (length lengths)))

@@ -8,7 +8,7 @@ use lib.ListN.{length, drop}
 use Rattle.layout.specs.Answer.{Told, got, refused}
 use Rattle.recording.specs.Content.{Record}
 use Rattle.recording.specs.Record.{recordOf}
-use Rattle.mending.specs.Window.{waits}
+use Rattle.recording.specs.Row.{waits}
 use Rattle.mending.specs.declared.search.Run.{Run}
 
 -- at each place from the one up to the other no record stands, whatever follows

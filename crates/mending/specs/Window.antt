@@ -12,10 +12,11 @@ use Rattle.layout.specs.Written.{Put}
 use Rattle.wire.specs.declared.Part.{Part}
 use Rattle.recording.specs.Content.{Record}
 use Rattle.recording.specs.Record.{recordOf}
-use Rattle.recording.specs.Row.{isCut}
+use Rattle.recording.specs.Row.{waits}
 use Rattle.mending.specs.declared.window.Tally.{Tally}
 use Rattle.mending.specs.declared.window.Swept.{Swept}
-use Rattle.mending.specs.Mended.{stretch, fronted, startsOf, lengthsOf}
+use Rattle.turns.specs.Held.{fronted}
+use Rattle.mending.specs.Mended.{stretch, startsOf, lengthsOf}
 
 -- ── how far mending has come ──
 
@@ -63,10 +64,6 @@ before text told n w = record { text = text ++ w .text; told = told ++ w .told; 
 -- where all has come, the open stretch is told, if there is room for it
 abbrev pub closes : Bool → ℕ → Tally → Windowed
 closes all slots t = pick all (pick (leb (length (opened t)) slots) (record { text = []; told = opened t; used = 0; tally = closed t }) (rests t)) (rests t)
-
--- bytes that follow may still change what is found at the front
-unfoldable pub waits : Bool → List ℕ → Bool
-waits last s = pick last false (isCut s)
 
 -- what is found there, and what follows it. A record is kept where it has room, and the open stretch before it
 abbrev pub judged : ℕ → ℕ → List ℕ → Tally → Answer Record → (ℕ → ℕ → ℕ → Tally → Windowed) → Windowed

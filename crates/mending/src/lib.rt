@@ -5,12 +5,12 @@ ghost use Prim.Native.Nat.{_-_};
 ghost use lib.ListN.{length};
 ghost use Rattle.mending.specs.Mended.{mendSaid, stretch, droppedOf, Mends, saysMended};
 
+mod report;
 mod search;
 mod turn;
 mod window;
 
 use layout::Refusal;
-pub use turn::Next;
 pub use turn::Stand;
 pub use turn::Turn;
 pub use turn::begin;

@@ -2,24 +2,14 @@
 ghost use mathlib.Core.Path.{_≡_};
 ghost use Prim.Native.Nat.{_≤_};
 ghost use lib.ListN.{length};
-ghost use Rattle.mending.specs.Window.{waits as Window·waits};
 ghost use Rattle.mending.specs.Passed.{Gap, Row};
+use recording::ReadFront;
 use recording::ReadRecord;
 
 // Where the records end that stand one after the other, and how many they are.
 pub(crate) struct Run {
     pub end: usize,
     pub records: usize,
-}
-
-// Whether bytes that follow may change what is found at the front of these.
-fn waits(s: &[u8], last: bool) -> bool
-    ensures { λ r. ⌜ r ≡ Window·waits last (now (s .entry)) ⌝ }
-{
-    if last {
-        return false;
-    }
-    recording::is_cut(s)
 }
 
 // The first place from `from` on at which a record stands, or may stand when more bytes have come; or the end.
@@ -30,14 +20,14 @@ pub(crate) fn gap_end(s: &[u8], from: usize, last: bool) -> usize
     let mut at = from;
     while at < s.len() {
         let part = &s[at..];
-        match recording::read_record(part) {
-            ReadRecord::Got(_, _) => {
+        match recording::read_front(part, last) {
+            ReadFront::Got(_, _) => {
                 return at;
             }
-            ReadRecord::Refused(_) => {
-                if waits(part, last) {
-                    return at;
-                }
+            ReadFront::Cut(_) => {
+                return at;
+            }
+            ReadFront::Refused(_) => {
                 at += 1;
             }
         }

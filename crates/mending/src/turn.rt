@@ -1,35 +1,31 @@
 // The turns of a program that mends a recording as it comes: what to write and to tell, and then whether to go on, to read or to stop. The
-// program does what it is told and reckons nothing: specs/Turn.antt says what a turn is, specs/Run.antt what a row of turns comes to.
+// program does what it is told and reckons nothing: specs/Turn.antt says what a turn is; what a row of turns gives stands in `turns`.
 ghost use mathlib.Core.Path.{_≡_};
-ghost use mathlib.Core.Bool.{true};
+ghost use Prim.Native.Nat.{_≤_};
 ghost use lib.ListN.{length};
+ghost use Rattle.layout.specs.Written.{Put};
+ghost use Rattle.turns.specs.Held.{holds, rest};
+ghost use Rattle.turns.specs.Turn.{turnOf};
+ghost use Rattle.mending.specs.Mended.{least};
 ghost use Rattle.mending.specs.Window.{windowOf, Sweeps};
-ghost use Rattle.mending.specs.Mended.{fronted};
-ghost use Rattle.mending.specs.Turn.{size, report, begun, joined, lies, unmended, mendedIn, wentOn, byMended, turned, stood, Turns, turnOf};
+ghost use Rattle.mending.specs.Turn.{begun, joins, wentOn, turned, stood, state, lastLine, stepOf, Turns};
 use crate::Swept;
 use crate::Tally;
+use crate::report;
+use turns::Hold;
+use turns::Next;
 
-// What is to be done after a turn's bytes and stretches are written: take the next turn, or read into the window from `held` on before it, or
-// stop.
-pub enum Next {
-    Again,
-    Read,
-    Stop,
-}
-
-// The bytes of the window from `from` up to `held` are still to be mended; `ended` says that no more will come. So many stretches were told.
+// What is held of the window is still to be mended; so many stretches were told.
 pub struct Stand {
-    pub from: usize,
-    pub held: usize,
-    pub ended: bool,
+    pub hold: Hold,
     pub stretches: u64,
     pub tally: Tally,
 }
 
-// The first `written` bytes of the output are the turn's, and the first `told` of the report its stretches.
+// The first `written` bytes of the output are the turn's, and the first `reported` of the report.
 pub struct Turn {
     pub written: usize,
-    pub told: usize,
+    pub reported: usize,
     pub next: Next,
     pub stand: Stand,
 }
@@ -38,57 +34,45 @@ pub struct Turn {
 pub fn begin() -> Stand
     ensures { λ r. ⌜ r ≡ begun ⌝ }
 {
+    let hold = turns::nothing();
+    let tally = crate::start();
     Stand {
-        from: 0,
-        held: 0,
-        ended: false,
+        hold,
         stretches: 0,
-        tally: crate::start(),
+        tally,
     }
 }
 
 // After n bytes came where the turn said, or none: the input has ended.
 pub fn join(s: Stand, n: usize) -> Stand
-    ensures { λ r. ⌜ r ≡ joined s n ⌝ }
+    ensures { λ r. ⌜ r ≡ joins s n ⌝ }
 {
+    let hold = turns::join(s.hold, n);
     let tally = s.tally;
     Stand {
-        from: s.from,
-        held: std::num::wrapping_add_usize(s.held, n),
-        ended: n == 0,
+        hold,
         stretches: s.stretches,
         tally,
     }
 }
 
-// Whether what is held lies in the window.
-fn in_window(s: Stand) -> bool
-    ensures { λ r. ⌜ r ≡ lies s ⌝ }
-{
-    if s.held > 65536 {
-        return false;
-    }
-    s.from <= s.held
-}
-
 fn standing(from: usize, held: usize, ended: bool, stretches: u64, tally: Tally) -> Stand
-    ensures { λ r. ⌜ r ≡ stood from held ended stretches tally ⌝ }
+    ensures { λ r. ⌜ r ≡ stood (holds from held ended) (state stretches tally) ⌝ }
 {
+    let hold = Hold { from, held, ended };
     Stand {
-        from,
-        held,
-        ended,
+        hold,
         stretches,
         tally,
     }
 }
 
-fn answer(written: usize, told: usize, next: Next, stand: Stand) -> Turn
-    ensures { λ r. ⌜ r ≡ turned written told next stand ⌝ }
+fn answer(written: usize, reported: usize, next: Next, stand: Stand) -> Turn
+    ensures { λ r. ⌜ r ≡ turned written reported next stand ⌝ }
 {
     Turn {
         written,
-        told,
+        reported,
         next,
         stand,
     }
@@ -106,78 +90,63 @@ fn went_on(used: usize, told: usize) -> bool
 
 // Mends what is held.
 fn mend_held(
-    s: Stand,
     window: &[u8],
+    hold: Hold,
+    tally: Tally,
     out: &mut [u8],
     starts: &mut [u64],
     lengths: &mut [u64],
 ) -> Swept
-    requires { ⌜ (lies s ≡ true) × (length (now window) ≡ size) × (length (now out) ≡ size) × (length (now starts) ≡ report) × (length (now lengths) ≡ report) ⌝ }
-    ensures { λ r. ⌜ Sweeps (mendedIn (now (window .entry)) s) (now (out .entry)) (now (starts .entry)) (now (lengths .entry)) r (now (out .exit)) (now (starts .exit)) (now (lengths .exit)) ⌝ }
+    ensures { λ r. ⌜ Sweeps (windowOf (hold .ended) (length (now (out .entry))) (least (length (now (starts .entry))) (length (now (lengths .entry)))) (rest (now (window .entry)) (hold .from) (hold .held)) tally) (now (out .entry)) (now (starts .entry)) (now (lengths .entry)) r (now (out .exit)) (now (starts .exit)) (now (lengths .exit)) ⌝ }
 {
-    let from = s.from;
-    let held = s.held;
-    let ended = s.ended;
-    let tally = s.tally;
-    crate::mend_window(&window[from..held], ended, tally, out, starts, lengths)
-}
-
-// Moves what is held to the window's front, by way of the output: how many bytes they are.
-fn to_front(s: Stand, window: &mut [u8], out: &mut [u8]) -> usize
-    requires { ⌜ (lies s ≡ true) × (length (now window) ≡ size) × (length (now out) ≡ size) ⌝ }
-    ensures { λ r. ⌜ (r ≡ length (unmended (now (window .entry)) (s .from) (s .held))) × (now (out .exit) ≡ fronted (unmended (now (window .entry)) (s .from) (s .held)) (now (out .entry))) × (now (window .exit) ≡ fronted (unmended (now (window .entry)) (s .from) (s .held)) (now (window .entry))) ⌝ }
-{
-    let rest = s.held - s.from;
-    layout::copy(window, s.from, rest, out, 0);
-    layout::copy(out, 0, rest, window, 0)
-}
-
-// A turn where what is held lies in the window.
-fn held_turn(
-    s: Stand,
-    window: &mut [u8; 65536],
-    out: &mut [u8; 65536],
-    starts: &mut [u64; 1024],
-    lengths: &mut [u64; 1024],
-) -> Turn
-    requires { ⌜ lies s ≡ true ⌝ }
-    ensures { λ r. ⌜ Turns (byMended (now (window .entry)) (now (out .entry)) s (mendedIn (now (window .entry)) s)) (now (starts .entry)) (now (lengths .entry)) r (now (window .exit)) (now (out .exit)) (now (starts .exit)) (now (lengths .exit)) ⌝ }
-{
-    let from = s.from;
-    let held = s.held;
-    let ended = s.ended;
-    let done = mend_held(s, window, out, starts, lengths);
-    let tally = done.tally;
-    let all = std::num::wrapping_add_u64(s.stretches, done.stretches as u64);
-    if went_on(done.used, done.stretches) {
-        let on = standing(from + done.used, held, ended, all, tally);
-        return answer(done.written, done.stretches, Next::Again, on);
-    }
-    if ended {
-        let over = standing(from, held, ended, all, tally);
-        return answer(done.written, done.stretches, Next::Stop, over);
-    }
-    let kept = to_front(s, window, out);
-    answer(
-        done.written,
-        done.stretches,
-        Next::Read,
-        standing(0, kept, false, all, tally),
+    crate::mend_window(
+        turns::rest_of(window, hold.from, hold.held),
+        hold.ended,
+        tally,
+        out,
+        starts,
+        lengths,
     )
 }
 
-// One turn. Its bytes stand at the front of the output, and its stretches at the fronts of the report's two lists.
+// The last line, of a program that ends here.
+fn put_last(stretches: u64, t: Tally, report: &mut [u8]) -> usize
+    requires { ⌜ 140 ≤ length (now report) ⌝ }
+    ensures { λ r. ⌜ Put (now (report .entry)) 0 (lastLine (state stretches t)) (now (report .exit)) r × (r ≤ length (now (report .entry))) ⌝ }
+{
+    let dropped = std::num::wrapping_sub_u64(t.place, t.bytes);
+    report::put_counts(t.records, t.bytes, stretches, dropped, report)
+}
+
+// One turn. Its bytes stand at the front of the output, its stretches at the fronts of the two lists, and its lines at the front of the report.
 pub fn take_turn(
     s: Stand,
     window: &mut [u8; 65536],
     out: &mut [u8; 65536],
     starts: &mut [u64; 1024],
     lengths: &mut [u64; 1024],
+    report: &mut [u8; 65536],
 ) -> Turn
-    ensures { λ r. ⌜ Turns (turnOf (now (window .entry)) (now (out .entry)) s) (now (starts .entry)) (now (lengths .entry)) r (now (window .exit)) (now (out .exit)) (now (starts .exit)) (now (lengths .exit)) ⌝ }
+    ensures { λ r. ⌜ Turns (turnOf stepOf (now (window .entry)) (s .hold) (state (s .stretches) (s .tally))) (now (out .entry)) (now (starts .entry)) (now (lengths .entry)) (now (report .entry)) r (now (window .exit)) (now (out .exit)) (now (starts .exit)) (now (lengths .exit)) (now (report .exit)) ⌝ }
 {
-    if !in_window(s) {
-        return answer(0, 0, Next::Stop, s);
+    let hold = s.hold;
+    let held = hold.held;
+    let ended = hold.ended;
+    let done = mend_held(window, hold, s.tally, out, starts, lengths);
+    let tally = done.tally;
+    let from = hold.from + done.used;
+    let all = std::num::wrapping_add_u64(s.stretches, done.stretches as u64);
+    if went_on(done.used, done.stretches) {
+        let n = report::put_lines(done.stretches, starts, lengths, report);
+        let on = standing(from, held, ended, all, tally);
+        return answer(done.written, n, Next::Again, on);
     }
-    held_turn(s, window, out, starts, lengths)
+    if ended {
+        let n = put_last(all, tally, report);
+        let over = standing(hold.from, held, ended, all, tally);
+        return answer(done.written, n, Next::Stop, over);
+    }
+    let kept = turns::keep(window, from, held);
+    let more = standing(0, kept, false, all, tally);
+    answer(done.written, 0, Next::Read, more)
 }

@@ -1,3 +1,4 @@
 pub mod laws
 pub mod Tables
 pub mod Unique
+pub mod Coded

@@ -6,6 +6,8 @@ pub mod Weighing
 pub mod Sending
 pub mod Tested
 pub mod Extremes
-pub mod Exact
+pub mod Choices
 pub mod Scanning
 pub mod Rows
+pub mod Said
+pub mod Widest

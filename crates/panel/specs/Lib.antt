@@ -3,3 +3,4 @@ pub mod Allowed
 pub mod Test
 pub mod Words
 pub mod Panel
+pub mod Said

@@ -8,3 +8,4 @@ pub mod Told
 pub mod Placed
 pub mod Moved
 pub mod Copying
+pub mod Writing

@@ -136,7 +136,7 @@ module _ (pre : List ℕ) where
       rw (take-append-add pre s end)
       (means-moved (moveContent (length pre)) (move (length pre)) (length pre) (contentAt (h .kind) (take end s) (h .body .start)) _ _ (content-moved (h .kind) (take end s) (h .body .start)) λ c. refl)
 
-  more-moved : (s : List ℕ) (at : ℕ) → ltb (length pre + at) (length (pre ++ s)) ≡ ltb at (length s)
+  pub more-moved : (s : List ℕ) (at : ℕ) → ltb (length pre + at) (length (pre ++ s)) ≡ ltb at (length s)
   more-moved s at = go (ltb at (length s)) refl
     where
       go : (b : Bool) → ltb at (length s) ≡ b → ltb (length pre + at) (length (pre ++ s)) ≡ b
@@ -156,7 +156,7 @@ module _ (pre : List ℕ) where
 -- ── bytes that follow a record that is accepted ──
 
 module _ (a b : List ℕ) where
-  record-stays : (at : ℕ) {x : Record} {n : ℕ} → got x n ≡ recordAt a at → recordAt (a ++ b) at ≡ got x n
+  pub record-stays : (at : ℕ) {x : Record} {n : ℕ} → got x n ≡ recordAt a at → recordAt (a ++ b) at ≡ got x n
   record-stays at {x} {n} e =
       let p = accepted (Placed a at) (record-placed a at) e in
       let pre = take at a in

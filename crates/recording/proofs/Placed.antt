@@ -93,7 +93,7 @@ onward-same : (at : ℕ) (x : Answer Record) (f g : ℕ → ℕ) → Accepts (λ
 onward-same at (got x n) f g e = e
 onward-same at (refused t) f g e = refl
 
-whole-enough : (f g : ℕ) (s : List ℕ) (at : ℕ) → length s - at ≤ f → length s - at ≤ g → wholeFrom f s at ≡ wholeFrom g s at
+pub whole-enough : (f g : ℕ) (s : List ℕ) (at : ℕ) → length s - at ≤ f → length s - at ≤ g → wholeFrom f s at ≡ wholeFrom g s at
 unfolding wholeFrom
 whole-enough zero g s at h k = sym (whole-from-none g s at (omega arith))
 whole-enough (suc f) zero s at h k = whole-from-none (suc f) s at (omega arith)
@@ -287,7 +287,7 @@ copies-so s {old} {new} {a} {l} {n} e w = record {
 }
 
 module _ (s out : List ℕ) where
-  said : {l : Left} {n : ℕ} → got l n ≡ leftOut s → copySaid s ≡ says (spelling (kept s))
+  pub said : {l : Left} {n : ℕ} → got l n ≡ leftOut s → copySaid s ≡ says (spelling (kept s))
   unfolding copySaid
   said e = said-took (kept s) (accepted _ (copied-adds s) e .1)
 

@@ -3,3 +3,4 @@
 pub mod Rowed
 pub mod Older
 pub mod Fronted
+pub mod Fronts

@@ -6,7 +6,7 @@ use mathlib.Core.List.{List, [], _∷_, _++_}
 use Prim.Native.Nat.{ℕ, _+_, _-_}
 use lib.ListN.{take, drop}
 use Rattle.layout.specs.Answer.{Told, Answer, got, refused, pick, after, means}
-use Rattle.layout.specs.Written.{Said, saidOf, answerOf, leftOf}
+use Rattle.layout.specs.Written.{Said, saidOf, spelling, answerOf, leftOf}
 use Rattle.wire.specs.Returned.{partOf}
 use Rattle.wire.specs.declared.container.Container.{Container}
 use Rattle.recording.specs.Content.{Content, Record}
@@ -97,6 +97,17 @@ pub record Sweeps (s : List ℕ) (r : Swept) : Type 0 where
 pub record CopiesFront (s old : List ℕ) (r : Front) (new : List ℕ) : Type 0 where
   pub used : r .used ≡ wholeOf s
   pub copies : Copies (take (wholeOf s) s) old (saysCopied (r .copied)) new
+
+-- their copy, and what it leaves out
+unfoldable pub frontText : List ℕ → List ℕ
+frontText s = spelling (kept (take (wholeOf s) s))
+
+abbrev pub leftIn : Answer Left → Left
+leftIn (got l n) = l
+leftIn (refused t) = none
+
+unfoldable pub frontLeft : List ℕ → Left
+frontLeft s = leftIn (leftOut (take (wholeOf s) s))
 
 -- ── places moved by so many bytes, and records that are alike ──
 

@@ -5,3 +5,4 @@ pub mod Copied
 pub mod Older
 pub mod Refused
 pub mod Returned
+pub mod Writing

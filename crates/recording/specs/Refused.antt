@@ -60,6 +60,6 @@ pub data Cut (s : List ℕ) : Type 0 where
   in-front : length s < 6 → Cut s
   in-body : 6 ≤ length s → 6 ≤ announced s → 1 ≤ kindIn s → kindIn s ≤ 3 → announced s - 6 ≤ limit → length s < announced s → Cut s
 
--- what `is_cut` answers
+-- whether bytes that follow may change what is found, as `read_front` has it
 abbrev pub CutSays : List ℕ → Bool → Type 0
 CutSays s = Cut s gives true else Otherwise false

@@ -1,6 +1,7 @@
 -- What reading a row of records finds, record by record.
 -- Assumes nothing.
-use mathlib.Core.Bool.{Bool, false}
+use mathlib.Core.Path.{_≡_}
+use mathlib.Core.Bool.{Bool, true, false}
 use mathlib.Core.List.{List, [], _∷_}
 use Prim.Native.Nat.{ℕ, zero, suc}
 use lib.Dec.{ltb, eqb}
@@ -8,7 +9,9 @@ use lib.ListN.{length, drop}
 use Rattle.layout.specs.Answer.{Answer, got, refused, Reader, pick, after, means}
 use Rattle.layout.specs.Refusals.{END}
 use Rattle.recording.specs.Content.{Record}
-use Rattle.recording.specs.Record.{headOf, recordAt, recordOf}
+use Rattle.recording.specs.Record.{headAt, headOf, recordAt, recordOf, recordFrom}
+use Rattle.recording.specs.declared.ReadFront.{ReadFront}
+use Rattle.recording.specs.declared.ReadFront.the-variants as readFront
 
 -- a whole record is followed by what is found after it; a refusal is the last
 abbrev pub followed : Answer Record → (ℕ → List (Answer Record)) → List (Answer Record)
@@ -57,3 +60,28 @@ isEnd (refused t) = eqb (t .no) END
 -- its six bytes are not all there, or, where these begin a record, its body is not
 unfoldable pub isCut : List ℕ → Bool
 isCut s = isEnd (headOf s)
+
+-- unless no bytes follow
+unfoldable pub waits : Bool → List ℕ → Bool
+waits last s = pick last false (isCut s)
+
+-- by the number of the head's refusal
+abbrev pub waitsFor : Bool → ℕ → Bool
+waitsFor last number = pick last false (eqb number END)
+
+-- ── this paper's values for each case ──
+
+abbrev pub saysFront : ReadFront → Answer Record
+saysFront (readFront.Got x c) = got (recordFrom x) (c .at)
+saysFront (readFront.Refused t) = refused t
+saysFront (readFront.Cut t) = refused t
+
+abbrev pub mayChange : ReadFront → Bool
+mayChange (readFront.Got x c) = false
+mayChange (readFront.Refused t) = false
+mayChange (readFront.Cut t) = true
+
+-- the record at a place, and whether bytes that follow may change what is found
+pub record Finds (last : Bool) (s : List ℕ) (at : ℕ) (r : ReadFront) : Type 0 where
+  pub answer : saysFront r ≡ recordAt s at
+  pub waiting : mayChange r ≡ pick last false (isEnd (headAt s at))

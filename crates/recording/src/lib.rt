@@ -5,7 +5,7 @@ ghost use lib.ListN.{length};
 ghost use Rattle.layout.specs.Written.{Wrote, says, saysWritten};
 ghost use Rattle.recording.specs.Record.{limit, isKind, isWritten, contentAt, bodyAt, headAt, recordAt, recordOf, recordWord, recordSaid, saysReadContent, saysHead, saysRecord};
 ghost use Rattle.recording.specs.Record.{begins as Record·begins};
-ghost use Rattle.recording.specs.Row.{isCut};
+ghost use Rattle.recording.specs.Row.{waitsFor, Finds};
 
 mod copy;
 
@@ -59,6 +59,13 @@ enum ReadContent {
 pub enum ReadRecord {
     Got(Record, Cursor),
     Refused(Refusal),
+}
+
+// What is found at the front of bytes that others may follow: these may change what is found of a record that is cut.
+pub enum ReadFront {
+    Got(Record, Cursor),
+    Refused(Refusal),
+    Cut(Refusal),
 }
 
 fn is_kind(kind: u16) -> bool
@@ -144,16 +151,25 @@ fn read_head(s: &[u8], at: usize) -> ReadHead
     }
 }
 
-// The record at a place. Its parts, and the place of a refusal, count in the bytes that are lent.
-pub fn read_record_at(s: &[u8], c: Cursor) -> ReadRecord
-    ensures { λ r. ⌜ saysRecord r ≡ recordAt (now (s .entry)) (c .at) ⌝ }
+// Whether bytes that follow may change a head's refusal: they may where it is END, unless none will come.
+fn is_open(no: u8, last: bool) -> bool
+    ensures { λ r. ⌜ r ≡ waitsFor last no ⌝ }
 {
-    match read_head(s, c.at) {
+    if last {
+        return false;
+    }
+    no == layout::END
+}
+
+fn read_at(s: &[u8], at: usize, last: bool) -> ReadFront
+    ensures { λ r. ⌜ Finds last (now (s .entry)) at r ⌝ }
+{
+    match read_head(s, at) {
         ReadHead::Got(head, end) => {
             let kind = head.kind;
             let body = head.body;
             match content_at(kind, &s[..end.at], body.start) {
-                ReadContent::Got(content, next) => ReadRecord::Got(
+                ReadContent::Got(content, next) => ReadFront::Got(
                     Record {
                         kind,
                         body,
@@ -161,10 +177,26 @@ pub fn read_record_at(s: &[u8], c: Cursor) -> ReadRecord
                     },
                     next,
                 ),
-                ReadContent::Refused(f) => ReadRecord::Refused(f),
+                ReadContent::Refused(f) => ReadFront::Refused(f),
             }
         }
-        ReadHead::Refused(f) => ReadRecord::Refused(f),
+        ReadHead::Refused(f) => {
+            if is_open(f.no, last) {
+                return ReadFront::Cut(f);
+            }
+            ReadFront::Refused(f)
+        }
+    }
+}
+
+// The record at a place. Its parts, and the place of a refusal, count in the bytes that are lent.
+pub fn read_record_at(s: &[u8], c: Cursor) -> ReadRecord
+    ensures { λ r. ⌜ saysRecord r ≡ recordAt (now (s .entry)) (c .at) ⌝ }
+{
+    match read_at(s, c.at, true) {
+        ReadFront::Got(x, next) => ReadRecord::Got(x, next),
+        ReadFront::Refused(f) => ReadRecord::Refused(f),
+        ReadFront::Cut(f) => ReadRecord::Refused(f),
     }
 }
 
@@ -175,14 +207,12 @@ pub fn read_record(s: &[u8]) -> ReadRecord
     read_record_at(s, Cursor { at: 0 })
 }
 
-// Whether bytes that follow these may change what is found at their front: END is told of its head, and not of what a whole body holds.
-pub fn is_cut(s: &[u8]) -> bool
-    ensures { λ r. ⌜ r ≡ isCut (now (s .entry)) ⌝ }
+// The same of bytes that others may follow, unless `last` says that none will: the record is cut where these may change what is found. They
+// may where the head is refused with END, and not where the content of a whole body is.
+pub fn read_front(s: &[u8], last: bool) -> ReadFront
+    ensures { λ r. ⌜ Finds last (now (s .entry)) 0 r ⌝ }
 {
-    match read_head(s, 0) {
-        ReadHead::Got(_, _) => false,
-        ReadHead::Refused(f) => f.no == layout::END,
-    }
+    read_at(s, 0, last)
 }
 
 fn put_record(kind: u16, body: &[u8], out: &mut [u8]) -> Written

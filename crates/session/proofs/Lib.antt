@@ -5,3 +5,6 @@ pub mod Unique
 pub mod ReadBack
 pub mod Numbers
 pub mod Told
+pub mod Answered
+pub mod Fills
+pub mod Example

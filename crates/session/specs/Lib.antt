@@ -3,3 +3,5 @@ pub mod Search
 pub mod Calls
 pub mod Payloads
 pub mod Returned
+pub mod Answered
+pub mod Fills

@@ -29,7 +29,7 @@ use Rattle.settings.proofs.Rows.{not-both, same-true, true-same, forwar
 
 -- ── one for each key ──
 
-settings-snoc : (s : List ℕ) (xs : List Entry) (x : Entry) → settingsIn s (xs ++ (x ∷ [])) ≡ settingsIn s xs ++ (settingIn s x ∷ [])
+pub settings-snoc : (s : List ℕ) (xs : List Entry) (x : Entry) → settingsIn s (xs ++ (x ∷ [])) ≡ settingsIn s xs ++ (settingIn s x ∷ [])
 settings-snoc s [] x = refl
 settings-snoc s (y ∷ xs) x = ap (λ l. settingIn s y ∷ l) (settings-snoc s xs x)
 
@@ -49,7 +49,7 @@ holds-snoc k (y ∷ xs) x e f = go (sameKey k (y .key)) e (λ i. holds-snoc k xs
     go true e r = zero-one (cc)
     go false e r = r e
 
-distinct-snoc : (xs : List Setting) (x : Setting) → Distinct xs → holds (x .key) xs ≡ false → Distinct (xs ++ (x ∷ []))
+pub distinct-snoc : (xs : List Setting) (x : Setting) → Distinct xs → holds (x .key) xs ≡ false → Distinct (xs ++ (x ∷ []))
 unfolding holds
 distinct-snoc [] x d e = (refl, tt)
 distinct-snoc (y ∷ xs) x d e = go (sameKey (x .key) (y .key)) refl e (λ i. distinct-snoc xs x (d .1) i)

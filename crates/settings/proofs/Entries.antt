@@ -10,7 +10,7 @@ use borrow.Author.Tests.{eqb-true, eq-eqb, leb-true, le-leb}
 use lib.Dec.{eqb, leb}
 use lib.ListN.{length, take, drop}
 use lib.Seq.{take-take}
-use Rattle.layout.specs.Answer.{got, pick, after, spanAt}
+use Rattle.layout.specs.Answer.{got, refused, pick, after, badText, spanAt}
 use Rattle.layout.specs.Bytes.{Bytes, bytes, cells}
 use Rattle.layout.specs.Format.{Stands, Sound, word}
 use Rattle.layout.specs.Grammar.{loose, empty, Number, num}
@@ -19,14 +19,15 @@ use Rattle.layout.proofs.laws.Meets.{sound-at, complete-at, lies-got}
 use Rattle.layout.proofs.laws.Numbers.{length-bytes, Bytes-take}
 use Rattle.layout.proofs.laws.Reading.{drop-take, cells-take, span-within, parted, picked, one-got}
 use Rattle.layout.proofs.laws.Words.{fits, stands-none}
-use Rattle.wire.specs.Layout.{shape, Val, Value}
-use Rattle.wire.specs.Places.{numAt, textAt, itemsIn, valueAt, shapeIn}
+use Rattle.wire.specs.Layout.{paired, shape, Val, Value}
+use Rattle.wire.specs.Places.{numAt, unitsAt, textAt, itemsIn, valueAt, shapeIn}
 use Rattle.wire.specs.Property.{between}
 use Rattle.wire.specs.declared.Part.{Part}
 use Rattle.wire.proofs.laws.Formats.{text-format, value-format}
 use Rattle.wire.proofs.laws.Located.{texts, values}
 use Rattle.settings.specs.Layout.{OWN, knows, Serial}
 use Rattle.settings.specs.Entry.{serialAt, typedAt, fieldsAt, restAt, wholeAt, Within}
+use Rattle.settings.specs.Refused.{countByte}
 use Rattle.settings.specs.declared.entry.Edition.{Edition}
 use Rattle.settings.specs.declared.entry.Entry.{Entry}
 
@@ -40,6 +41,10 @@ number-sound k s h at v n e = of (subst (Sound (Number k) s at) e ((number-forma
 
 pub number-complete : (k : ℕ) {s : List ℕ} {at v n : ℕ} → Stands s at n (bytes k v) → v < 256 ^ k → numAt k s at ≡ got v n
 number-complete k st lt = (number-format k) .complete st (num lt)
+
+-- a number of k bytes ends k bytes on
+pub ends : {s : List ℕ} {at n : ℕ} (k v : ℕ) → Stands s at n (bytes k v) → n ≡ at + k
+ends k v st = omega (arith, st .till, length-bytes k v)
 
 -- ── bytes that end with the entry ──
 
@@ -66,16 +71,35 @@ pub record SerialRead (b : Bool) (s : List ℕ) (at : ℕ) (p : Part) (n : ℕ) 
   pub there : Stands s at n word
   pub reads : Serial b loose word (itemsIn 2 s p)
   pub inside : p .start + p .count * 2 ≤ n
+  pub from : p .start ≡ at + countByte b
+
+-- a string's units stand behind its count byte
+text-start : (s : List ℕ) → Bytes s → (at : ℕ) (p : Part) (n : ℕ) → textAt s at ≡ got p n → p .start ≡ at + 1
+unfolding textAt unitsAt
+text-start s h at p n e =
+    let a = parted (numAt 1 s at) _ e in
+    let next = ends 1 (a .0) (number-sound 1 s h at (a .0) (a .1) (a .2) .0) in
+    go (a .0) (a .1) next (eqb (a .0) 0) (a .3)
+  where
+    units : (k m : ℕ) → after (spanAt at (k * 2) s m) (λ _ next. pick (paired (cells 2 (k - 1) (drop m s))) (got (record { start = m; count = k - 1 }) next) (refused (badText at))) ≡ got p n → p .start ≡ m
+    units k m e =
+        let b = parted (spanAt at (k * 2) s m) _ e in
+        let c = picked (paired (cells 2 (k - 1) (drop m s))) (got (record { start = m; count = k - 1 }) (b .1)) _ (b .3) in
+        sym (ap (λ q. q .start) (one-got (c .1) .0))
+
+    go : (k m : ℕ) → m ≡ at + 1 → (b : Bool) → pick b (got (record { start = m; count = 0 }) m) (after (spanAt at (k * 2) s m) λ _ next. pick (paired (cells 2 (k - 1) (drop m s))) (got (record { start = m; count = k - 1 }) next) (refused (badText at))) ≡ got p n → p .start ≡ at + 1
+    go k m i true e = sym (ap (λ q. q .start) (one-got e .0)) ∙ i
+    go k m i false e = units k m e ∙ i
 
 serial-sound : (b : Bool) (s : List ℕ) → Bytes s → (at : ℕ) (p : Part) (n : ℕ) → pick b (textAt s at) (got (record { start = at; count = 0 }) at) ≡ got p n → SerialRead b s at p n
 unfolding cells
 serial-sound true s h at p n e =
     let a = sound-at text-format (itemsIn 2 s) (texts .agrees s at) h e in
-    record { word = a .0; there = a .1; reads = a .2; inside = lies-got (texts .inside s at) e .1 .2 }
+    record { word = a .0; there = a .1; reads = a .2; inside = lies-got (texts .inside s at) e .1 .2; from = text-start s h at p n e }
 serial-sound false s h at p n e =
     let is : p ≡ record { start = at; count = 0 } = cc in
     let till : n ≡ at = cc in
-    rw (is, till) (record { word = []; there = stands-none; reads = empty; inside = omega arith })
+    rw (is, till) (record { word = []; there = stands-none; reads = empty; inside = omega arith; from = omega arith })
 
 serial-complete : (b : Bool) (s : List ℕ) (at n : ℕ) (w us : List ℕ) → Stands s at n w → Serial b loose w us
     → (p : Part) × (pick b (textAt s at) (got (record { start = at; count = 0 }) at) ≡ got p n) × (itemsIn 2 s p ≡ us) × (p .start + p .count * 2 ≤ n)
@@ -103,10 +127,6 @@ pub record Parts (u : List ℕ) (at : ℕ) (x : Entry) (n : ℕ) : Type 0 where
   pub there : Stands u (x .value .start) n value
   pub reads : Value (x .code) loose value reading
   pub size : x .value .len ≡ n - x .value .start
-
--- a number of k bytes ends k bytes on
-pub ends : {s : List ℕ} {at n : ℕ} (k v : ℕ) → Stands s at n (bytes k v) → n ≡ at + k
-ends k v st = omega (arith, st .till, length-bytes k v)
 
 module _ (u : List ℕ) (h : Bytes u) (start kind at : ℕ) where
   pub fields-sound : (x : Entry) (n : ℕ) → fieldsAt start kind u at ≡ got x n → (x .start ≡ start) × (x .kind ≡ kind) × Parts u at x n

@@ -86,12 +86,13 @@ settings-append s (x ∷ xs) ys = ap (λ l. settingIn s x ∷ l) (settings-appen
 
 -- ── entries that stand so are accepted ──
 
-chain-row : {e : Edition} (s : List ℕ) {w : List ℕ} {rs : List Setting} → Entries e w rs → (at : ℕ) → Stands s at (length s) w → (ys : List Entry) (fuel : ℕ) → length s - at ≤ fuel
-    → Distinct (settingsIn s ys ++ rs) → length ys + length rs ≤ limit → (zs : List Entry) × (rowFrom e fuel ys s at ≡ got (ys ++ zs) (length s)) × (settingsIn s zs ≡ rs)
-chain-row {e} s none at st ys fuel k d f =
-    let end : at ≡ length s = omega (arith, st .till) in
-    ([], row-end e s fuel ys at (omega (arith, end)) ∙ ap (got ys) end ∙ ap (λ l. got l (length s)) (sym (append-nil ys)), refl)
-chain-row {e} s (one-more {u} {v} {x} {xs = rs} g h) at st ys fuel k d f =
+-- up to the place behind them
+pub chain-on : {e : Edition} (s : List ℕ) {w : List ℕ} {rs : List Setting} → Entries e w rs → {at n : ℕ} → Stands s at n w → n ≤ length s → (ys : List Entry) (fuel : ℕ) → length s - at ≤ fuel
+    → Distinct (settingsIn s ys ++ rs) → length ys + length rs ≤ limit → (zs : List Entry) × (left : ℕ) × (rowFrom e fuel ys s at ≡ rowFrom e left (ys ++ zs) s n) × (settingsIn s zs ≡ rs) × (length s - n ≤ left)
+chain-on {e} s none {at} {n} st within ys fuel k d f =
+    let end : at ≡ n = omega (arith, st .till) in
+    ([], fuel, ap (rowFrom e fuel ys s) end ∙ ap (λ l. rowFrom e fuel l s n) (sym (append-nil ys)), refl, omega (arith, end))
+chain-on {e} s (one-more {u} {v} {x} {xs = rs} g h) {at} {n} st within ys fuel k d f =
     let p = split u v st in
     let long = entry-long g in
     let far : at + length u ≤ length s = omega (arith, p .1 .till) in
@@ -101,9 +102,9 @@ chain-row {e} s (one-more {u} {v} {x} {xs = rs} g h) at st ys fuel k d f =
     let new : holds (keyIn s y) (settingsIn s ys) ≡ false = subst (λ z. holds (z .key) (settingsIn s ys) ≡ false) (sym is) (distinct-before (settingsIn s ys) x rs d) in
     let moved : settingsIn s (ys ++ (y ∷ [])) ++ rs ≡ settingsIn s ys ++ (x ∷ rs) =
     ap (λ l. l ++ rs) (settings-append s ys (y ∷ []) ∙ ap (λ z. settingsIn s ys ++ (z ∷ [])) is) ∙ append-assoc (settingsIn s ys) (x ∷ []) rs in
-    let r = chain-row s h (at + length u) (p .1) (ys ++ (y ∷ [])) (fuel - 1) (omega (arith, long)) (subst Distinct (sym moved) d) (omega (arith, length-append ys (y ∷ []), f)) in
+    let r = chain-on s h (p .1) within (ys ++ (y ∷ [])) (fuel - 1) (omega (arith, long)) (subst Distinct (sym moved) d) (omega (arith, length-append ys (y ∷ []), f)) in
     let next = row-next e s fuel ys at y (at + length u) (omega (arith, long)) k (a .1) new (omega (arith, f)) in
-    (y ∷ r .0, next ∙ r .1 ∙ ap (λ l. got l (length s)) (append-assoc ys (y ∷ []) (r .0)), ap (λ z. z ∷ settingsIn s (r .0)) is ∙ ap (λ l. x ∷ l) (r .2))
+    (y ∷ r .0, r .1, next ∙ r .2 ∙ ap (λ l. rowFrom e (r .1) l s n) (append-assoc ys (y ∷ []) (r .0)), ap (λ z. z ∷ settingsIn s (r .0)) is ∙ ap (λ l. x ∷ l) (r .3), r .4)
 
 -- ── a row ──
 
@@ -111,7 +112,9 @@ module _ (e : Edition) (s : List ℕ) where
   -- by its entries' places, and by their readings
   pub row-reads : (rs : List Setting) → IsRow e s rs → (xs : List Entry) × (rowOf e s ≡ got xs (length s)) × (settingsIn s xs ≡ rs)
   unfolding rowOf
-  row-reads rs r = chain-row s (r .entries) 0 (self s) [] (length s) (omega arith) (r .distinct) (omega (arith, r .few))
+  row-reads rs r =
+      let a = chain-on s (r .entries) (self s) (omega arith) [] (length s) (omega arith) (r .distinct) (omega (arith, r .few)) in
+      (a .0, a .2 ∙ row-end e s (a .1) (a .0) (length s) (omega arith), a .3)
 
   pub row-complete : (rs : List Setting) → IsRow e s rs → settingsOf e s ≡ got rs (length s)
   unfolding means
@@ -170,14 +173,17 @@ module _ (e : Edition) (w : List ℕ) (r : Setting) where
       let end : ltb (b .1) (length w) ≡ false = le-ltb (b .1) (length w) (omega (arith, i .1)) in
       rw (b .2, end, t .0) (ap (λ x. got (settingIn w x) (b .1)) (i .0) ∙ ap (λ y. got y (b .1)) (a .2) ∙ ap (got r) (i .1))
 
+  pub alone-sound : Bytes w → (x : Entry) (n : ℕ) → aloneIn e w ≡ got x n → settingIn w x ≡ r → IsEntry e w r
+  alone-sound h x n i same =
+      let sp = alone-spelt e w h x n i in
+      let is : sp .word ≡ w = entry-word (sp .is) ∙ sym (alone-word e w h x n i) in
+      subst (λ v. IsEntry e v r) is (subst (IsEntry e (sp .word)) same (sp .is))
+
   -- accepted, with that reading, exactly where it is an entry of it
   pub alone-exact : Bytes w → (settingOf e w ≡ got r (length w)) ↔ IsEntry e w r
   unfolding means
   alone-exact h = (λ f. go (aloneIn e w) refl f, alone-complete)
     where
       go : (y : Answer Entry) → aloneIn e w ≡ y → means (settingIn w) y ≡ got r (length w) → IsEntry e w r
-      go (got x n) i f =
-          let sp = alone-spelt e w h x n i in
-          let is : sp .word ≡ w = entry-word (sp .is) ∙ sym (alone-word e w h x n i) in
-          subst (λ v. IsEntry e v r) is (subst (IsEntry e (sp .word)) (one-got f .0) (sp .is))
+      go (got x n) i f = alone-sound h x n i (one-got f .0)
       go (refused t) i f = zero-one (cc)

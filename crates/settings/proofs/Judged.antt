@@ -1,39 +1,52 @@
 -- Which refusal an entry is given: its front test by test; then, of its content, by the layout alone. Where the fields are read, the words they are stand there one behind the other, up to a place;
--- where they are not read, no word begins there, for the words of one would be read.
+-- where they are not read, no word begins there, and the codec of the content stops at the same field. What is said so determines the answer.
 -- Assumes nothing.
 use mathlib.Core.Path.{_≡_, refl, ap, sym, _∙_, subst}
 use mathlib.Core.Bool.{Bool, true, false}
 use mathlib.Core.List.{List, _++_}
+use mathlib.Core.Logic.{_⊎_, inl, inr}
 use Prim.Native.Nat.{ℕ, _+_, _-_, _^_, _≤_, _<_}
 use native.Mathlib.Nat.{add-zero}
 use native.Mathlib.Omega.{arith}
-use borrow.Author.Tests.{eqb-true, eqb-false}
-use lib.Dec.{eqb, lit≤}
+use borrow.Author.Tests.{eqb-true, eqb-false, ltb-true, ltb-false}
+use lib.Dec.{eqb, ltb, lit≤}
 use lib.ListN.{length, take, drop, length-drop}
 use lib.Seq.{take-take, take-all, drop-drop, length-take-le}
 use Rattle.layout.specs.Answer.{Told, Answer, got, refused, pick, after, endAt, bare, spanAt}
 use Rattle.layout.specs.Bytes.{Bytes, bytes, number}
-use Rattle.layout.specs.Fault.{Begins}
+use Rattle.layout.specs.Faithful.{Prefix}
+use Rattle.layout.specs.Fault.{Begins, Ends, BadText}
 use Rattle.layout.specs.Format.{Stands}
 use Rattle.layout.specs.Grammar as grammar
 use Rattle.layout.specs.Grammar.{loose, tidy, both, as′}
 use Rattle.layout.specs.Refusals.{TRAIL, RECORD}
+use Rattle.layout.specs.Spot.{Points}
+use Rattle.layout.proofs.laws.Decided.{refuses}
 use Rattle.layout.proofs.laws.Make.{Spanned, there, short, spanned}
-use Rattle.layout.proofs.laws.Numbers.{Bytes-take, zero-one}
-use Rattle.layout.proofs.laws.Reading.{one-got, field-there}
-use Rattle.layout.proofs.laws.Words.{join, split, fits}
-use Rattle.wire.specs.Places.{numAt, itemsIn}
+use Rattle.layout.proofs.laws.Meets as meets
+use Rattle.layout.proofs.laws.Meets.{faithful}
+use Rattle.layout.proofs.laws.Numbers.{Bytes-take, Bytes-drop, zero-one}
+use Rattle.layout.proofs.laws.Reading.{field-there, drop-take}
+use Rattle.layout.proofs.laws.Words.{join, fits}
+use Rattle.wire.specs.Places.{numAt, itemsIn, filledAt}
 use Rattle.wire.specs.Tests.{_gives_else_, holds, fails}
 use Rattle.wire.specs.Refused.{announced, kindIn}
-use Rattle.wire.proofs.laws.Judged.{goes-on, enough, least-row, field-row}
-use Rattle.settings.specs.Layout.{OWN, knows, Setting, Serial, Content, IsEntry, is-entry}
-use Rattle.settings.specs.Entry.{fieldsAt, restAt, wholeAt, isTidy, tidyAt, entryAt, settingIn, saysEntry}
-use Rattle.settings.specs.Refused.{contentIn, FrontTests, ContentSays, in-a-field, bytes-left, untidy, accepted, EntrySays}
-use Rattle.settings.proofs.Entries.{stands-in, stands-out, ends, fields-sound, fields-complete, read-whole, number-sound, number-complete}
-use Rattle.settings.proofs.Spelled.{split-number, entry-sound, entry-complete}
+use Rattle.wire.proofs.laws.Formats.{value-format}
+use Rattle.wire.proofs.laws.Judged.{one-test, goes-on, enough, least-row, field-row}
+use Rattle.settings.specs.Layout.{OWN, knows, Setting, Content, IsEntry, is-entry}
+use Rattle.settings.specs.Entry.{fieldsAt, restAt, wholeAt, isTidy, tidyAt, entryAt, aloneIn, settingIn, saysEntry}
+use Rattle.settings.specs.Fields.{ContentFault, ContentSpot}
+use Rattle.settings.specs.Refused.{entryFrom, EntryInOrder, contentIn, FrontTests, ContentSays, in-a-field, bytes-left, untidy, accepted, EntrySays, AloneSays}
+use Rattle.settings.proofs.Entries.{stands-in, stands-out, ends, fields-sound, read-whole, number-sound, number-complete}
+use Rattle.settings.proofs.Fields.{content-faults, content-unread, content-points}
+use Rattle.settings.proofs.Spelled.{serial-format, contentCodec, content-format, split-number, entry-sound, entry-complete}
 use Rattle.settings.specs.declared.entry.Edition.{Edition}
 use Rattle.settings.specs.declared.entry.Entry.{Entry}
 use Rattle.settings.specs.declared.entry.ReadEntry.{ReadEntry}
+
+-- a word is a prefix of itself
+word-prefix : {c : List ℕ} {r : Setting} → Content loose c r → Prefix Content c r (length c)
+word-prefix {c} {r} g = record { within = omega arith; reads = rw (take-all (length c) c (omega arith)) g }
 
 -- a test that holds or not
 known-row : {A : Type 0} {Q : A → Type 0} (b : Bool) (x : A) {y : A} → (b ≡ true → Q x) → (b ≡ false gives y else Q) (pick b x y)
@@ -44,10 +57,10 @@ known-row false x f = holds refl
 
 module _ (e : Edition) (s : List ℕ) (at : ℕ) where
   -- what is answered behind it, of an entry of that kind that ends there
-  abbrev fieldsOf : ℕ → ℕ → Answer Entry
+  abbrev pub fieldsOf : ℕ → ℕ → Answer Entry
   fieldsOf kind end = after (fieldsAt at kind (take end s) (at + 6)) λ x n. pick (eqb n end) (got x n) (refused (bare TRAIL))
 
-  record Behind (d : List ℕ) (x : Answer Entry) : Type 0 where
+  pub record Behind (d : List ℕ) (x : Answer Entry) : Type 0 where
     pub known : knows e (kindIn d) ≡ true
     pub six : 6 ≤ announced d
     pub whole : announced d ≤ length d
@@ -70,7 +83,7 @@ module _ (e : Edition) (s : List ℕ) (at : ℕ) where
           fails (enough within) (record { known = known; six = six; whole = within; is = ap (fieldsOf (kindIn d)) end })
       go (refused t) (short h) = holds (omega (arith, size))
 
-  whole-judged : FrontTests e at (drop at s) (Behind (drop at s)) (wholeAt e s at)
+  pub whole-judged : FrontTests e at (drop at s) (Behind (drop at s)) (wholeAt e s at)
   unfolding wholeAt restAt
   whole-judged =
       field-row 4 0 s at at _ (lit≤ tt) refl (sym (add-zero at)) λ a ea _.
@@ -116,38 +129,19 @@ module _ (e : Edition) (s : List ℕ) (h : Bytes s) (at len kind : ℕ) (known :
       let g : Content loose w r = as′ (both (as′ (both (grammar.num small) (both (grammar.num (p .vendor-small)) (both (grammar.num (p .property-small)) (p .serial .reads))))) (both (grammar.num (p .type-small)) (p .reads))) in
       (far, omega (arith, st .till), r, k .1, subst (λ v. Content loose v r) (sym (front-of st far)) g)
 
-  -- and a word is read
-  word-read : (w : List ℕ) (n : ℕ) (r : Setting) → Stands s (at + 4) n w → n ≤ at + len → Content loose w r → (x : Entry) × (fieldsAt at kind (take (at + len) s) (at + 6) ≡ got x n)
-  word-read w n r st far
-      (as′ (both {u = kw} {v = rest} (as′ (both (grammar.num {n = k} lk) (both (grammar.num {n = vendor} lv) (both {v = sw} {b = us} (grammar.num {n = property} lp) gs)))) (both {v = vw} {b = v} (grammar.num {n = type} lt) gv))) =
-      let a = split kw rest st in
-      let b = split-number 2 k _ (a .0) in
-      let c = split-number 4 vendor _ (b .1) in
-      let p = split-number 2 property sw (c .1) in
-      let t = split-number 2 type vw (a .1) in
-      let same : k ≡ kind = one-got (sym (number-complete 2 (b .0) lk) ∙ number-complete 2 kind-there kind-small) .0 in
-      let m = at + len in
-      let mid = at + 4 + length kw in
-      let place : at + 4 + 2 ≡ at + 6 = omega arith in
-      let after-type : mid + 2 ≤ n = omega (arith, t .1 .till) in
-      let after-serial : at + 4 + 2 + 4 + 2 ≤ mid = omega (arith, p .1 .till) in
-      let f = fields-complete (take m s) at kind (at + 4 + 2) vendor property type (at + 4 + 2 + 4) (at + 4 + 2 + 4 + 2) mid (mid + 2) n sw us vw v
-      (stands-in m (omega arith) (c .0)) lv (stands-in m (omega arith) (p .0)) lp (stands-in m (omega arith) (p .1)) (subst (λ i. Serial (eqb i OWN) loose sw us) same gs)
-      (stands-in m (omega arith) (t .0)) lt (stands-in m far (t .1)) gv in
-      (_, ap (fieldsAt at kind (take m s)) (sym place) ∙ f .3)
-
-  -- so where they are not read, no word begins the content
-  none-begins : (t : Told) → fieldsAt at kind (take (at + len) s) (at + 6) ≡ refused t → Begins Content content → ⊥
-  none-begins t f b =
-      let r = b .0 in
-      let n = b .1 .0 in
-      let k = b .1 .1 in
-      let w = take n content in
-      let size : length w ≡ n = length-take-le n content (k .within) in
-      let st : Stands s (at + 4) (at + 4 + n) w = record { is = ap (λ m. take m (drop (at + 4) s)) size ∙ sym (take-take n (len - 4) (drop (at + 4) s) (omega (arith, k .within, content-size))); till = omega (arith, size) } in
-      let x = word-read w (at + 4 + n) r st (omega (arith, k .within, content-size)) (k .reads) in
-      let z = sym f ∙ x .1 in
-      zero-one (cc)
+  -- the fields that are not read are told of the content's spot, and no word begins it
+  unread : {t : Told} → fieldsAt at kind (take (at + len) s) (at + 6) ≡ refused t → (Begins Content content → ⊥) × Points {L = Entry} ContentFault ContentSpot content (at + 4) (refused t)
+  unread {t} f =
+      let u = take (at + len) s in
+      let hu = Bytes-take (at + len) s h in
+      let six-on : at + 4 + 2 ≡ at + 6 = omega arith in
+      let kind-read : numAt 2 u (at + 4) ≡ got kind (at + 4 + 2) = number-complete 2 (subst (λ n. Stands u (at + 4) n (bytes 2 kind)) (sym six-on) (stands-in (at + len) (omega arith) kind-there)) kind-small in
+      let stops : fieldsAt at kind u (at + 4 + 2) ≡ refused t = ap (fieldsAt at kind u) six-on ∙ f in
+      let end : at + len ≡ at + 4 + (len - 4) = omega arith in
+      let here : drop (at + 4) u ≡ content = ap (λ n. drop (at + 4) (take n s)) end ∙ drop-take (at + 4) (len - 4) s in (
+        subst (λ c. Begins Content c → ⊥) here (content-unread u hu at kind (at + 4) kind-read stops),
+        subst (λ c. Points {L = Entry} ContentFault ContentSpot c (at + 4) (refused t)) here (content-points u hu at kind (at + 4) kind-read stops),
+      )
 
   -- an entry's content is tidy; and where the content is tidy, the entry is accepted
   tidy-of : (r : Setting) (w : List ℕ) → Stands s at (at + len) w → IsEntry e w r → Content tidy content r
@@ -166,61 +160,175 @@ module _ (e : Edition) (s : List ℕ) (h : Bytes s) (at len kind : ℕ) (known :
 
   -- ── what is answered of it ──
 
-  abbrev tested : Answer Entry → Answer Entry
-  tested y = after (after y λ x n. pick (eqb n (at + len)) (got x n) (refused (bare TRAIL))) λ x n. tidyAt s x n
+  -- the fields, then 3 where bytes are left in the entry, then the rest
+  abbrev tested : (Entry → ℕ → Answer Entry) → Answer Entry
+  tested rest = after (after (fieldsAt at kind (take (at + len) s) (at + 6)) λ x n. pick (eqb n (at + len)) (got x n) (refused (bare TRAIL))) rest
 
-  content-judged : (d : List ℕ) → contentIn d ≡ content → announced d ≡ len → ContentSays at d (tested (fieldsAt at kind (take (at + len) s) (at + 6)))
-  unfolding entryAt after tidyAt
-  content-judged d same size = go (fieldsAt at kind (take (at + len) s) (at + 6)) refl
-    where
-      whole-is : (x : Entry) (n : ℕ) → fieldsAt at kind (take (at + len) s) (at + 6) ≡ got x n → n ≡ at + len → wholeAt e s at ≡ got x n
-      whole-is x n f i = read-whole e s at len kind n x len-there len-small kind-there kind-small known six i (omega (arith, i)) (ap (λ m. fieldsAt at kind (take m s) (at + 6)) i ∙ f)
+  module _ (ending : Type 0) (d : List ℕ) (from : d ≡ drop at s) (same : contentIn d ≡ content) (size : announced d ≡ len) where
+    -- the word that fields which fill the entry are
+    whole-word : (x : Entry) (n : ℕ) → fieldsAt at kind (take (at + len) s) (at + 6) ≡ got x n → n ≡ at + len → (r : Setting) × (r .key .kind ≡ kind) × Content loose (contentIn d) r
+    whole-word x n f i =
+        let w = read-word x n f in
+        let all : take (n - (at + 4)) content ≡ content = take-all (n - (at + 4)) content (omega (arith, i, content-size)) in
+        (w .2, w .3, subst (λ c. Content loose c (w .2)) (all ∙ sym same) (w .4))
 
-      filled : (x : Entry) (n : ℕ) → fieldsAt at kind (take (at + len) s) (at + 6) ≡ got x n → n ≡ at + len → (b : Bool) → isTidy s x ≡ b → ContentSays at d (pick b (got x n) (refused (bare RECORD)))
-      filled x n f i true j =
-          let is : entryAt e s at ≡ got x n = rw (whole-is x n f i, j) in
-          let sp = entry-sound e s at x n h is in
-          let g = tidy-of (settingIn s x) (sp .word) (subst (λ m. Stands s at m (sp .word)) i (sp .there)) (sp .is) in
-          subst (λ m. ContentSays at d (got x m)) (ap (λ m. at + m) size ∙ sym i) (accepted x (settingIn s x) (subst (λ c. Content tidy c (settingIn s x)) (sym same) g))
-      filled x n f i false j =
-          let is : entryAt e s at ≡ refused (bare RECORD) = rw (whole-is x n f i, j) in
-          let w = read-word x n f in
-          let all : take (n - (at + 4)) content ≡ content = take-all (n - (at + 4)) content (omega (arith, i, content-size)) in
-          untidy (w .2) (subst (λ c. Content loose c (w .2)) (all ∙ sym same) (w .4)) λ g. let a = of-tidy (w .2) (w .3) (subst (λ c. Content tidy c (w .2)) same g) in let z = sym is ∙ a .1 in zero-one (cc)
+    tidy-judged : ending → (x : Entry) (n : ℕ) → fieldsAt at kind (take (at + len) s) (at + 6) ≡ got x n → n ≡ at + len → ContentSays ending at d (tidyAt s x n)
+    unfolding entryAt after tidyAt
+    tidy-judged asked x n f i = go (isTidy s x) refl
+      where
+        whole-is : wholeAt e s at ≡ got x n
+        whole-is = read-whole e s at len kind n x len-there len-small kind-there kind-small known six i (omega (arith, i)) (ap (λ m. fieldsAt at kind (take m s) (at + 6)) i ∙ f)
 
-      ends-at : (x : Entry) (n : ℕ) → fieldsAt at kind (take (at + len) s) (at + 6) ≡ got x n → (b : Bool) → eqb n (at + len) ≡ b
-          → ContentSays at d (after (pick b (got x n) (refused (bare TRAIL))) λ x n. pick (isTidy s x) (got x n) (refused (bare RECORD)))
-      ends-at x n f true i = filled x n f (eqb-true n (at + len) i) (isTidy s x) refl
-      ends-at x n f false i =
-          let w = read-word x n f in
-          let less : n - (at + 4) < length content = omega (arith, w .0, w .1, eqb-false n (at + len) i, content-size) in
-          bytes-left (w .2) (n - (at + 4)) (rw same (record { within = omega arith; reads = w .4 })) (rw same less)
+        go : (b : Bool) → isTidy s x ≡ b → ContentSays ending at d (pick b (got x n) (refused (bare RECORD)))
+        go true j =
+            let is : entryAt e s at ≡ got x n = rw (whole-is, j) in
+            let sp = entry-sound e s at x n h is in
+            let g = tidy-of (settingIn s x) (sp .word) (subst (λ m. Stands s at m (sp .word)) i (sp .there)) (sp .is) in
+            subst (λ m. ContentSays ending at d (got x m)) (ap (λ m. at + m) size ∙ sym i)
+            (accepted x (settingIn s x) asked (subst (λ c. Content tidy c (settingIn s x)) (sym same) g) (subst (λ v. EntryInOrder at v (settingIn s x) x) (sym from) (sp .order)))
+        go false j =
+            let is : entryAt e s at ≡ refused (bare RECORD) = rw (whole-is, j) in
+            let w = whole-word x n f i in
+            untidy (w .0) asked (w .2) λ g. let a = of-tidy (w .0) (w .1) (subst (λ c. Content tidy c (w .0)) same g) in let z = sym is ∙ a .1 in zero-one (cc)
 
-      go : (y : Answer Entry) → fieldsAt at kind (take (at + len) s) (at + 6) ≡ y → ContentSays at d (tested y)
-      go (got x n) f = ends-at x n f (eqb n (at + len)) refl
-      go (refused t) f = in-a-field (subst (λ c. Begins Content c → ⊥) (sym same) (none-begins t f))
+    content-judged : (rest : Entry → ℕ → Answer Entry) → ((x : Entry) (n : ℕ) → fieldsAt at kind (take (at + len) s) (at + 6) ≡ got x n → n ≡ at + len → ContentSays ending at d (rest x n)) → ContentSays ending at d (tested rest)
+    unfolding after
+    content-judged rest on = go (fieldsAt at kind (take (at + len) s) (at + 6)) refl
+      where
+        ends-at : (x : Entry) (n : ℕ) → fieldsAt at kind (take (at + len) s) (at + 6) ≡ got x n → (b : Bool) → eqb n (at + len) ≡ b → ContentSays ending at d (after (pick b (got x n) (refused (bare TRAIL))) rest)
+        ends-at x n f true i = on x n f (eqb-true n (at + len) i)
+        ends-at x n f false i =
+            let w = read-word x n f in
+            let less : n - (at + 4) < length content = omega (arith, w .0, w .1, eqb-false n (at + len) i, content-size) in
+            bytes-left (w .2) (n - (at + 4)) (rw same (record { within = omega arith; reads = w .4 })) (inl (rw same less))
+
+        go : (y : Answer Entry) → fieldsAt at kind (take (at + len) s) (at + 6) ≡ y → ContentSays ending at d (after (after y λ x n. pick (eqb n (at + len)) (got x n) (refused (bare TRAIL))) rest)
+        go (got x n) f = ends-at x n f (eqb n (at + len)) refl
+        go (refused t) f =
+            let k = unread f in
+            in-a-field (subst (λ c. Begins Content c → ⊥) (sym same) (k .0)) (subst (λ c. Points {L = Entry} ContentFault ContentSpot c (at + 4) (refused t)) (sym same) (k .1))
 
 -- ── an entry at a place ──
 
 module _ (e : Edition) (s : List ℕ) (h : Bytes s) (at : ℕ) where
-  behind-judged : (x : Answer Entry) → Behind e s at (drop at s) x → ContentSays at (drop at s) (after x λ y n. tidyAt s y n)
-  behind-judged x b =
-      let d = drop at s in
-      let size : length d ≡ length s - at = length-drop at s in
-      let on = drop-drop 4 at s in
-      let len = number-sound 4 s h at (announced d) (at + 4) (field-there 4 number s at (omega (arith, b .whole, b .six))) in
-      let kind-is : number (take 2 (drop (at + 4) s)) ≡ kindIn d = ap (λ w. number (take 2 w)) (sym on) in
-      let kind-read : numAt 2 s (at + 4) ≡ got (kindIn d) (at + 6) = field-there 2 number s (at + 4) (omega (arith, b .whole, b .six)) ∙ ap (λ k. got k (at + 4 + 2)) kind-is ∙ ap (got (kindIn d)) (omega arith) in
-      let kind = number-sound 2 s h (at + 4) (kindIn d) (at + 6) kind-read in
-      subst (λ y. ContentSays at d (after y λ z n. tidyAt s z n)) (sym (b .is))
-      (content-judged e s h at (announced d) (kindIn d) (b .known) (b .six) (omega (arith, b .whole, b .six)) (len .0) (len .1) (kind .0) (kind .1) d (ap (take (announced d - 4)) on) refl)
+  abbrev d : List ℕ
+  d = drop at s
 
-  entry-judged : EntrySays e at (drop at s) (entryAt e s at)
+  -- what stands behind the front's tests, for any rest and what it asks of the end
+  behind-judged : (ending : Type 0) (rest : Entry → ℕ → Answer Entry)
+      → (announced d ≤ length d → (x : Entry) (n : ℕ) → n ≡ at + announced d → (ending → ContentSays ending at d (tidyAt s x n)) → ((r : Setting) × Content loose (contentIn d) r) → ContentSays ending at d (rest x n))
+      → (x : Answer Entry) → Behind e s at d x → ContentSays ending at d (after x rest)
+  behind-judged ending rest on x b =
+      let on-from = drop-drop 4 at s in
+      let len = number-sound 4 s h at (announced d) (at + 4) (field-there 4 number s at (omega (arith, b .whole, b .six, length-drop at s))) in
+      let kind-is : number (take 2 (drop (at + 4) s)) ≡ kindIn d = ap (λ w. number (take 2 w)) (sym on-from) in
+      let kind-read : numAt 2 s (at + 4) ≡ got (kindIn d) (at + 6) = field-there 2 number s (at + 4) (omega (arith, b .whole, b .six, length-drop at s)) ∙ ap (λ k. got k (at + 4 + 2)) kind-is ∙ ap (got (kindIn d)) (omega arith) in
+      let kind = number-sound 2 s h (at + 4) (kindIn d) (at + 6) kind-read in
+      let within : at + announced d ≤ length s = omega (arith, b .whole, b .six, length-drop at s) in
+      let same = ap (take (announced d - 4)) on-from in
+      subst (λ y. ContentSays ending at d (after y rest)) (sym (b .is))
+      (content-judged e s h at (announced d) (kindIn d) (b .known) (b .six) within (len .0) (len .1) (kind .0) (kind .1) ending d refl same refl rest λ x n f i.
+      on (b .whole) x n i (λ asked. tidy-judged e s h at (announced d) (kindIn d) (b .known) (b .six) within (len .0) (len .1) (kind .0) (kind .1) ending d refl same refl asked x n f i)
+      (let w = whole-word e s h at (announced d) (kindIn d) (b .known) (b .six) within (len .0) (len .1) (kind .0) (kind .1) ending d refl same refl x n f i in (w .0, w .2)))
+
+  front-judged : (ending : Type 0) (rest : Entry → ℕ → Answer Entry) → ((x : Answer Entry) → Behind e s at d x → ContentSays ending at d (after x rest)) → FrontTests e at d (ContentSays ending at d) (after (wholeAt e s at) rest)
+  front-judged ending rest on =
+      goes-on rest (λ x _. goes-on rest (λ x _. goes-on rest (λ x _. goes-on rest (λ x _. goes-on rest (λ x _ b. on x b) x) x) x) x) (wholeAt e s at) (whole-judged e s at)
+
+  pub entry-judged : EntrySays e at d (entryAt e s at)
   unfolding entryAt
-  entry-judged =
-      let k : Entry → ℕ → Answer Entry = λ x n. tidyAt s x n in
-      goes-on k (λ x _. goes-on k (λ x _. goes-on k (λ x _. goes-on k (λ x _. goes-on k (λ x _ b. behind-judged x b) x) x) x) x) (wholeAt e s at) (whole-judged e s at)
+  entry-judged = front-judged (Unit {0}) (λ x n. tidyAt s x n) (behind-judged (Unit {0}) (λ x n. tidyAt s x n) λ _ x n i tidied _. tidied tt)
 
   -- of the function's own answer
-  pub entry-says : (r : ReadEntry) → saysEntry r ≡ entryAt e s at → EntrySays e at (drop at s) (saysEntry r)
+  pub entry-says : (r : ReadEntry) → saysEntry r ≡ entryAt e s at → EntrySays e at d (saysEntry r)
   entry-says r promised = rw promised entry-judged
+
+-- ── an entry alone in its bytes ──
+
+pub alone-judged : (e : Edition) (w : List ℕ) → Bytes w → AloneSays e w (aloneIn e w)
+unfolding aloneIn filledAt after
+alone-judged e w h = front-judged e w h 0 ending rest (behind-judged e w h 0 ending rest on)
+  where
+    ending : Type 0
+    ending = length w ≡ announced w
+
+    rest : Entry → ℕ → Answer Entry
+    rest x n = after (pick (ltb n (length w)) (refused (bare TRAIL)) (got (tt {0}) n)) λ _ _. tidyAt w x n
+
+    on : announced w ≤ length w → (x : Entry) (n : ℕ) → n ≡ 0 + announced w → (ending → ContentSays ending 0 w (tidyAt w x n)) → ((r : Setting) × Content loose (contentIn w) r) → ContentSays ending 0 w (rest x n)
+    on whole x n i tidied r = go (ltb n (length w)) refl
+      where
+        go : (b : Bool) → ltb n (length w) ≡ b → ContentSays ending 0 w (after (pick b (refused (bare TRAIL)) (got (tt {0}) n)) λ _ _. tidyAt w x n)
+        go true j = bytes-left (r .0) (length (contentIn w)) (word-prefix (r .1)) (inr λ e. omega (arith, ltb-true n (length w) j))
+        go false j = tidied (omega (arith, ltb-false n (length w) j))
+
+-- ── and no other answer is said of the same bytes ──
+
+module _ (ending : Type 0) (at : ℕ) (d : List ℕ) (h : Bytes d) where
+  abbrev c : List ℕ
+  c = contentIn d
+
+  hc : Bytes c
+  hc = Bytes-take (announced d - 4) (drop 4 d) (Bytes-drop 4 d h)
+
+  begun : {r : Setting} → Content loose c r → Begins Content c
+  begun {r} g = (r, (length c, word-prefix g))
+
+  begun-tidy : {r : Setting} → Content tidy c r → Begins Content c
+  begun-tidy g = begun (content-format .inside g)
+
+  one-reading : {r q : Setting} → Content loose c r → Content loose c q → r ≡ q
+  one-reading {r} {q} g k = ((faithful content-format) .unique c r q (length c) (length c) (word-prefix g) (word-prefix k)) .1
+
+  -- a word that fills the content, and ending as asked, is not followed
+  not-left : {r q : Setting} {n : ℕ} → Prefix Content c r n → (n < length c) ⊎ (ending → ⊥) → ending → Content loose c q → ⊥
+  not-left {r} {q} {n} p (inl l) asked g = omega (arith, ((faithful content-format) .unique c r q n (length c) p (word-prefix g)) .0)
+  not-left p (inr l) asked g = l asked
+
+  one-order : {r : Setting} {x y : Entry} → EntryInOrder at d r x → EntryInOrder at d r y → x ≡ y
+  one-order {r} o q =
+      let serial : o .serial ≡ q .serial = (serial-format (eqb (r .key .kind) OWN)) .one (o .serial-is) ∙ sym ((serial-format (eqb (r .key .kind) OWN)) .one (q .serial-is)) in
+      let value : o .value ≡ q .value = (value-format (r .type)) .one (o .value-is) ∙ sym ((value-format (r .type)) .one (q .value-is)) in
+      let end : o .serial-end ≡ q .serial-end = omega (arith, o .serial-there .till, q .serial-there .till, ap length serial) in
+      o .places ∙ ap (λ m. entryFrom at r (m + 2) (length (o .value))) end ∙ ap (λ w. entryFrom at r (q .serial-end + 2) (length w)) value ∙ sym (q .places)
+
+  -- one place and one number: the codec of the content, of the same bytes, gives one of the two
+  one-spot : {t u : Told} → (Begins Content c → ⊥) → Points {L = Entry} ContentFault ContentSpot c (at + 4) (refused t) → Points {L = Entry} ContentFault ContentSpot c (at + 4) (refused u) → _≡_ {A = Answer Entry} (refused t) (refused u)
+  one-spot {t} {u} none p q = go (contentCodec .read c 0) refl
+    where
+      by : (k : ℕ) → ContentSpot c k → Ends (contentCodec .read c 0) ⊎ BadText (contentCodec .read c 0) → _≡_ {A = Answer Entry} (refused t) (refused u)
+      by k i (inl f) = let clean = ((refuses content-format content-faults c hc 0) .ends .0 f) .1 in p .end-there k i clean ∙ sym (q .end-there k i clean)
+      by k i (inr f) = let spoilt = (refuses content-format content-faults c hc 0) .text .0 f in p .text-there k i spoilt ∙ sym (q .text-there k i spoilt)
+
+      go : (y : Answer Setting) → contentCodec .read c 0 ≡ y → _≡_ {A = Answer Entry} (refused t) (refused u)
+      go (got r n) f = absurd (none (r, (n, meets.accepted content-format c hc r n f)))
+      go (refused v) f = let o = p .some t refl in by (o .0) (o .1) ((refuses content-format content-faults c hc 0) .either v f)
+
+  pub content-one : (x y : Answer Entry) → ContentSays ending at d x → ContentSays ending at d y → x ≡ y
+  content-one x y (in-a-field n p) (in-a-field m q) = one-spot n p q
+  content-one x y (in-a-field n p) (bytes-left r k f l) = absurd (n (r, (k, f)))
+  content-one x y (in-a-field n p) (untidy r a g f) = absurd (n (begun g))
+  content-one x y (in-a-field n p) (accepted z r a g o) = absurd (n (begun-tidy g))
+  content-one x y (bytes-left r k f l) (in-a-field n p) = absurd (n (r, (k, f)))
+  content-one x y (bytes-left r k f l) (bytes-left q m g j) = refl
+  content-one x y (bytes-left r k f l) (untidy q a g j) = absurd (not-left f l a g)
+  content-one x y (bytes-left r k f l) (accepted z q a g o) = absurd (not-left f l a (content-format .inside g))
+  content-one x y (untidy r a g f) (in-a-field n p) = absurd (n (begun g))
+  content-one x y (untidy r a g f) (bytes-left q k j l) = absurd (not-left j l a g)
+  content-one x y (untidy r a g f) (untidy q b k j) = refl
+  content-one x y (untidy r a g f) (accepted z q b k o) = absurd (f (subst (λ v. Content tidy c v) (sym (one-reading g (content-format .inside k))) k))
+  content-one x y (accepted z r a g o) (in-a-field n p) = absurd (n (begun-tidy g))
+  content-one x y (accepted z r a g o) (bytes-left q k j l) = absurd (not-left j l a (content-format .inside g))
+  content-one x y (accepted z r a g o) (untidy q b k j) = absurd (j (subst (λ v. Content tidy c v) (one-reading (content-format .inside g) k) g))
+  content-one x y (accepted z r a g o) (accepted v q b k i) =
+      let same = one-reading (content-format .inside g) (content-format .inside k) in
+      ap (λ w. got w (at + announced d)) (one-order (subst (λ u. EntryInOrder at d u z) same o) i)
+
+one-front : {A : Type 0} (e : Edition) (at : ℕ) (d : List ℕ) {P : Answer A → Type 0} → ((x y : Answer A) → P x → P y → x ≡ y) → (x y : Answer A) → FrontTests e at d P x → FrontTests e at d P y → x ≡ y
+one-front e at d f = one-test (one-test (one-test (one-test (one-test f))))
+
+pub entry-one : (e : Edition) (at : ℕ) (d : List ℕ) → Bytes d → (x y : Answer Entry) → EntrySays e at d x → EntrySays e at d y → x ≡ y
+entry-one e at d h = one-front e at d (content-one (Unit {0}) at d h)
+
+pub alone-one : (e : Edition) (d : List ℕ) → Bytes d → (x y : Answer Entry) → AloneSays e d x → AloneSays e d y → x ≡ y
+alone-one e d h = one-front e 0 d (content-one (length d ≡ announced d) 0 d h)

@@ -2,6 +2,7 @@ pub mod Tidy
 pub mod Ahead
 pub mod Entries
 pub mod Spelled
+pub mod Fields
 pub mod Rows
 pub mod Accepted
 pub mod Keys
@@ -14,3 +15,5 @@ pub mod Editions
 pub mod Unique
 pub mod Told
 pub mod Judged
+pub mod RowSays
+pub mod StoreSays

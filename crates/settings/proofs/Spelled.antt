@@ -5,28 +5,31 @@ use mathlib.Core.Path.{_≡_, refl, ap, sym, _∙_, subst}
 use mathlib.Core.Logic.{_↔_}
 use mathlib.Core.Bool.{Bool, true, false}
 use mathlib.Core.List.{List, [], _++_}
-use Prim.Native.Nat.{ℕ, _+_, _-_, _^_, _≤_, _<_}
+use Prim.Native.Nat.{ℕ, zero, suc, _+_, _-_, _^_, _≤_, _<_}
 use native.Mathlib.Omega.{arith}
 use borrow.Author.Tests.{eq-eqb}
 use lib.Dec.{eqb}
-use lib.ListN.{length, take}
+use lib.ListN.{length, take, drop}
+use lib.Seq.{drop-drop}
 use Rattle.layout.specs.Answer.{got, pick, after}
-use Rattle.layout.specs.Bytes.{Bytes, bytes}
+use Rattle.layout.specs.Bytes.{Bytes, bytes, number, cells}
 use Rattle.layout.specs.Codec.{Codec, nothing, numbered, _and_, through}
 use Rattle.layout.specs.Format.{Format, Stands}
 use Rattle.layout.specs.Grammar as grammar
 use Rattle.layout.specs.Grammar.{loose, tidy, empty, both, as′}
 use Rattle.layout.proofs.laws.Make.{nothing-format, number-format, then-format, as-format}
-use Rattle.layout.proofs.laws.Numbers.{length-bytes, zero-one}
+use Rattle.layout.proofs.laws.Numbers.{length-bytes, number-bytes, zero-one}
 use Rattle.layout.proofs.laws.Reading.{parted, picked, one-got}
 use Rattle.layout.proofs.laws.Words.{join, split, fits, self}
 use Rattle.wire.specs.Codecs.{text, value}
 use Rattle.wire.specs.Layout.{STR, Val, Value}
 use Rattle.wire.specs.Places.{itemsIn}
 use Rattle.wire.specs.Property.{between, bytesOf, slotIn}
+use Rattle.wire.specs.Refused.{announced}
 use Rattle.wire.proofs.laws.Formats.{text-format, value-format}
 use Rattle.settings.specs.Layout.{OWN, knows, Key, Setting, Serial, keyFrom, Keyed, settingFrom, Content, IsEntry, is-entry}
 use Rattle.settings.specs.Entry.{fieldsAt, wholeAt, tidyText, serialSlot, serialTidy, valueTidy, isTidy, tidyAt, entryAt, keyIn, settingIn}
+use Rattle.settings.specs.Refused.{EntryInOrder}
 use Rattle.settings.specs.Store.{serialWord, keyWord, contentWord, entryWord}
 use Rattle.settings.specs.declared.entry.Edition.{Edition}
 use Rattle.settings.specs.declared.entry.Entry.{Entry}
@@ -39,7 +42,7 @@ abbrev pub serialCodec : Bool → Codec (List ℕ)
 serialCodec true = text
 serialCodec false = nothing []
 
-serial-format : (b : Bool) → Format (Serial b) (serialCodec b)
+pub serial-format : (b : Bool) → Format (Serial b) (serialCodec b)
 serial-format true = text-format
 serial-format false = nothing-format []
 
@@ -55,10 +58,10 @@ key-format =
     as-format keyFrom (then-format (number-format 2) λ kind. then-format (number-format 4) λ vendor. then-format (number-format 2) λ property. serial-format (eqb kind OWN)) keyWord λ w a g.
     ap (λ us. bytes 2 (a .0) ++ (bytes 4 (a .1 .0) ++ (bytes 2 (a .1 .1 .0) ++ us))) (serial-writes (eqb (a .0) OWN) (a .1 .1 .1))
 
-abbrev contentCodec : Codec Setting
+abbrev pub contentCodec : Codec Setting
 contentCodec = through settingFrom (keyCodec and λ key. numbered 2 and λ type. value type) contentWord
 
-content-format : Format Content contentCodec
+pub content-format : Format Content contentCodec
 content-format = as-format settingFrom (then-format key-format λ key. then-format (number-format 2) λ type. value-format type) contentWord λ w a g. refl
 
 -- ── what an entry's places mean ──
@@ -93,6 +96,21 @@ pub record Spelt (e : Edition) (s : List ℕ) (at : ℕ) (x : Entry) (n : ℕ) :
   pub word : List ℕ
   pub there : Stands s at n word
   pub is : IsEntry e word (settingIn s x)
+  pub order : EntryInOrder at (drop at s) (settingIn s x) x
+
+-- the same bytes, counted from a place on
+from-place : {s w : List ℕ} (at : ℕ) {i j k l : ℕ} → i ≡ at + k → j ≡ at + l → Stands s i j w → Stands (drop at s) k l w
+from-place {s} {w} at {i} {j} {k} {l} e f st = record { is = ap (take (length w)) (drop-drop k at s ∙ ap (λ m. drop m s) (sym e)) ∙ st .is; till = omega (arith, st .till) }
+
+-- an entry by its places
+placed : (x : Entry) {at from many begin size : ℕ} → x .start ≡ at → x .serial .start ≡ from → x .serial .count ≡ many → x .value .start ≡ begin → x .value .len ≡ size
+    → x ≡ record { start = at; kind = x .kind; vendor = x .vendor; property = x .property; serial = record { start = from; count = many }; code = x .code; value = record { start = begin; len = size } }
+placed x a b c d f = rw (← a, ← b, ← c, ← d, ← f)
+
+cells-count : (k n : ℕ) (s : List ℕ) → length (cells k n s) ≡ n
+unfolding cells
+cells-count k zero s = refl
+cells-count k (suc n) s = ap suc (cells-count k n (drop k s))
 
 module _ (e : Edition) (s : List ℕ) (at : ℕ) (x : Entry) (n : ℕ) where
   read-spelt : Read e s at x n → isTidy s x ≡ true → Spelt e s at x n
@@ -120,6 +138,22 @@ module _ (e : Edition) (s : List ℕ) (at : ℕ) (x : Entry) (n : ℕ) where
       let content-is : Content tidy cw (record { key = keyIn s x; type = x .code; value = p .reading }) = as′ (both key-is (both (grammar.num (p .type-small)) value-is)) in
       let len : r .len ≡ 4 + length cw = omega (arith, r .till, content-there .till) in
       let small : 4 + length cw < 256 ^ 4 = rw len at (r .length-small) in
+      let serial-end : ℕ = 12 + length sw in
+      let mid-is : p .mid ≡ at + serial-end = omega (arith, serial .till) in
+      let value-size : x .value .len ≡ length (p .value) = omega (arith, p .size, value-there .till) in
+      let value-start : x .value .start ≡ at + (serial-end + 2) = omega (arith, mid-is, ends 2 (x .code) (p .type)) in
+      let number-is : announced (drop at s) ≡ r .len = ap (λ k. number (take k (drop at s))) (sym (length-bytes 4 (r .len))) ∙ ap number (r .length-there .is) ∙ number-bytes 4 (r .len) (r .length-small) in
+      let order : EntryInOrder at (drop at s) (record { key = keyIn s x; type = x .code; value = p .reading }) x = record {
+        serial-end = serial-end;
+        serial = sw;
+        value = p .value;
+        serial-there = from-place at (omega arith) mid-is serial;
+        serial-is = serial-is;
+        type-there = from-place at mid-is value-start (stands-out n (omega arith) (p .type));
+        value-there = from-place at value-start (omega (arith, r .till, number-is)) value-there;
+        value-is = value-is;
+        places = placed x (r .start) (omega (arith, p .serial .from)) (sym (cells-count 2 (x .serial .count) (drop (x .serial .start) s))) value-start value-size;
+      } in
       let all : Stands s at n (bytes 4 (4 + length cw) ++ cw) = join (rw len at (r .length-there)) content-there in
       record {
         read = r;
@@ -129,6 +163,7 @@ module _ (e : Edition) (s : List ℕ) (at : ℕ) (x : Entry) (n : ℕ) where
         word = bytes 4 (4 + length cw) ++ cw;
         there = all;
         is = subst (λ v. IsEntry e (bytes 4 (4 + length cw) ++ cw) (record { key = keyIn s x; type = x .code; value = v })) (sym slot) (is-entry (r .known) small content-is);
+        order = subst (λ v. EntryInOrder at (drop at s) (record { key = keyIn s x; type = x .code; value = v }) x) (sym slot) order;
       }
 
   pub entry-sound : Bytes s → entryAt e s at ≡ got x n → Spelt e s at x n

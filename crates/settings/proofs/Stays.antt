@@ -4,15 +4,14 @@ use mathlib.Core.Path.{_≡_, refl, ap, sym, _∙_, subst}
 use mathlib.Core.Bool.{Bool, true, false}
 use mathlib.Core.List.{List, [], _∷_, _++_, append-assoc, append-nil}
 use mathlib.Core.Option.{Option}
-use Prim.Native.Nat.{ℕ, _≤_, _<_}
+use Prim.Native.Nat.{ℕ, _<_}
 use native.Mathlib.Omega.{arith}
 use mathlib.Core.Logic.{_⊎_, inl, inr}
-use borrow.Author.Tests.{lt-leb, le-leb}
+use borrow.Author.Tests.{lt-leb}
 use lib.Dec.{leb}
 use lib.ListN.{length}
-use Rattle.layout.specs.Answer.{got, pick, bare}
-use Rattle.layout.specs.Written.{says, no}
-use Rattle.settings.specs.Refusals.{FULL}
+use Rattle.layout.specs.Answer.{got, pick}
+use Rattle.layout.specs.Written.{says}
 use Rattle.settings.specs.Layout.{ANY, OWN, Setting, sameKey, holds, limit, IsEntry, IsRow}
 use Rattle.settings.specs.Row.{anyKey, ownKey, firstBy, findBy, foundIn, Finds}
 use Rattle.settings.specs.Store.{put, entryWord, rowWord, isFull, putSaid, storeSaid, settingsOf, settingOf}
@@ -127,7 +126,7 @@ the-second-decides {e} {w′ = w′} {t} {rs} {r} {r′} st g k =
     let full : isFull (r′ .key) (put r rs) ≡ false = not-full r′ (put r rs) (subst (λ j. holds j (put r rs) ≡ true) k (holds-own r rs)) in
     (says-put e t w′ (stored-reads st) (alone-complete e w′ r′ g) full ∙ ap (λ l. says (rowWord l)) (put-put r r′ rs k), put-put-size r r′ rs k)
 
--- ── what is stored, and what is full ──
+-- ── what is stored ──
 
 module _ {e : Edition} {s w : List ℕ} {rs : List Setting} {r : Setting} (row : IsRow e s rs) (entry : IsEntry e w r) where
   -- an entry is stored where its key is held, or where fewer are held than a row can have
@@ -139,8 +138,3 @@ module _ {e : Edition} {s w : List ℕ} {rs : List Setting} {r : Setting} (row :
       room : (holds (r .key) rs ≡ true) ⊎ (length rs < limit) → isFull (r .key) rs ≡ false
       room (inl i) = not-full r rs i
       room (inr l) = few-room r rs l
-
-  -- and refused with 18 where neither is so
-  pub store-full : holds (r .key) rs ≡ false → limit ≤ length rs → storeSaid (settingsOf e s) (settingOf e w) ≡ no (bare FULL)
-  unfolding storeSaid putSaid isFull
-  store-full n l = rw (row-complete e s rs row, alone-complete e w r entry, n, le-leb limit (length rs) l)

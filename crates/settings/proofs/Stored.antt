@@ -24,11 +24,9 @@ use Rattle.settings.specs.declared.entry.Edition.the-variants as edition
 use Rattle.settings.specs.declared.entry.Entry.{Entry}
 use Rattle.settings.specs.declared.row.Found.{Found}
 use Rattle.settings.specs.declared.row.Found.the-variants as found
-use Rattle.settings.proofs.Spelled.{entry-word}
 use Rattle.settings.proofs.Rows.{false-same}
-use Rattle.settings.proofs.Storing.{alone-spelt, alone-word}
 use Rattle.settings.proofs.Puts.{keyOf, holds-other, put-distinct, put-few, first-own, first-none}
-use Rattle.settings.proofs.Exact.{entries-word, row-complete, row-sound}
+use Rattle.settings.proofs.Exact.{entries-word, row-complete, row-sound, alone-sound}
 
 -- ── what is found, by the readings ──
 
@@ -93,9 +91,7 @@ stored e s w hs hw t f = row (rowOf e s) refl f
         → pick b (no (bare FULL)) (says (rowWord (put (settingIn w x) (settingsIn s xs)))) ≡ says t → (rs : List Setting) × (r : Setting) × Stores e s w t rs r
     room xs n i x m j true k f = zero-one (cc)
     room xs n i x m j false k f =
-        let sp = alone-spelt e w hw x m j in
-        let is : sp .word ≡ w = entry-word (sp .is) ∙ sym (alone-word e w hw x m j) in
-        (settingsIn s xs, settingIn w x, record { row = row-sound e s hs xs n i; entry = subst (λ v. IsEntry e v (settingIn w x)) is (sp .is); room = k; word = cc })
+        (settingsIn s xs, settingIn w x, record { row = row-sound e s hs xs n i; entry = alone-sound e w (settingIn w x) hw x m j refl; room = k; word = cc })
 
     alone : (xs : List Entry) (n : ℕ) → rowOf e s ≡ got xs n → (z : Answer Entry) → aloneIn e w ≡ z → storeSaid (got (settingsIn s xs) n) (means (settingIn w) z) ≡ says t → (rs : List Setting) × (r : Setting) × Stores e s w t rs r
     alone xs n i (got x m) j f = room xs n i x m j (isFull (keyIn w x) (settingsIn s xs)) refl f

@@ -4,4 +4,7 @@ pub mod Entry
 pub mod Row
 pub mod Store
 pub mod Search
+pub mod Fields
 pub mod Refused
+pub mod RowSays
+pub mod StoreSays

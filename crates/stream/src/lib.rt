@@ -1,7 +1,7 @@
 // Reading and writing where every failure is told. A call that a signal interrupted is made again, and a write that took less goes on with
 // the rest. Of any other failure one sentence goes to standard error, what failed and errno's text, and the caller stops; but a reader that
 // has gone away is not told of, as `cat` does not. What is read and written no contract can say.
-ghost use Rattle.stream.specs.Came.{within};
+ghost use Rattle.stream.specs.Came.{within, atOnce};
 ghost use Prim.Native.Nat.{_≤_};
 ghost use lib.ListN.{length};
 use libc::STDERR_FILENO;
@@ -63,7 +63,9 @@ fn write_some(fd: i32, bytes: &[u8], what: &[u8]) -> usize
 }
 
 // Writes all of the bytes: whether it did. `what` begins the sentence on a failure.
-pub fn write_all(fd: i32, bytes: &[u8], what: &[u8]) -> bool {
+pub fn write_all(fd: i32, bytes: &[u8], what: &[u8]) -> bool
+    ensures { λ r. ⌜ atOnce (now (bytes .entry)) r ⌝ }
+{
     let mut done = 0;
     while done < bytes.len() {
         let took = write_some(fd, &bytes[done..], what);

@@ -8,7 +8,7 @@ use native.Mathlib.Omega.{arith}
 use lib.Dec.{eqb}
 use Rattle.layout.specs.Answer.{pick}
 use Rattle.tree.specs.Listed.{times, Sorted, done, next, Listed}
-use Rattle.tree.proofs.Counts.{equal, hit, miss, every-at}
+use Rattle.tree.proofs.laws.Counts.{equal, hit, miss, every-at}
 
 module _ (Before : ℕ → ℕ → Type 0) (never : (a b : ℕ) → Before a b → Before b a → ⊥) where
   same : {l m : List ℕ} → Sorted Before l → Sorted Before m → ((k : ℕ) → times k l ≡ times k m) → l ≡ m

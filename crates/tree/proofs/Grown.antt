@@ -13,13 +13,12 @@ use lib.ListN.{length, getD, take, length-append}
 use lib.Seq.{take-suc, take-all, take-append-le}
 use lib.Dec.{eqb, ltb}
 use Rattle.layout.specs.Answer.{pick}
-use Rattle.tree.specs.Facts.{Ruled}
+use Rattle.tree.specs.Facts.{Ruled, Marks}
 use Rattle.tree.specs.Table.{parent}
 use Rattle.tree.specs.Listed.{times, Every, none, more, Sorted, done, next}
 use Rattle.tree.specs.Way.{Before, Walk}
 use Rattle.tree.specs.Kids.{hangs, kidsIn, kids}
-use Rattle.tree.proofs.Tables.{Marks}
-use Rattle.tree.proofs.Counts.{equal, hit, miss, times-append, times-take, pigeon, every-map, every-both, every-append, every-get, every-take}
+use Rattle.tree.proofs.laws.Counts.{equal, hit, miss, times-append, times-take, pigeon, every-map, every-both, every-append, every-get, every-take}
 use Rattle.tree.proofs.laws.Ways.{Kid, before-root, before-kids, before-beside}
 
 -- ── lists in order ──
@@ -62,11 +61,11 @@ by-less a b true e f g = f (ltb-true a b e)
 by-less a b false e f g = g (ltb-false a b e)
 
 -- marked or not
-by-mark : {X : Type 0} (b : Bool) → (b ≡ true → X) → (b ≡ false → X) → X
+pub by-mark : {X : Type 0} (b : Bool) → (b ≡ true → X) → (b ≡ false → X) → X
 by-mark true f g = f refl
 by-mark false f g = g refl
 
-clash : (b : Bool) → b ≡ true → b ≡ false → ⊥
+pub clash : (b : Bool) → b ≡ true → b ≡ false → ⊥
 clash b p q = let z : _≡_ {A = ℕ} 0 1 = cc in omega arith
 
 module _ (ps : List ℕ) (has : ℕ → Bool) where

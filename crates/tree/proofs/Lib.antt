@@ -1,9 +1,8 @@
 pub mod laws
-pub mod Counts
 pub mod Alone
 pub mod Grown
 pub mod Tables
-pub mod Told
+pub mod Exact
 pub mod Scans
 pub mod Routes
 pub mod Trails

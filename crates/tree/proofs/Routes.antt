@@ -1,12 +1,13 @@
 -- Paths: each by its parent's, as the code makes them; how long they can be; and many end to end, one at a time.
 -- Assumes nothing.
 use mathlib.Core.Path.{_≡_, refl, sym, ap, _∙_}
+use mathlib.Core.Bool.{true, false}
 use mathlib.Core.List.{List, [], _∷_, _++_}
 use Prim.Native.Nat.{ℕ, zero, suc, _+_, _-_, _*_, _≤_, _<_}
 use native.Mathlib.Nat.{not-suc-le-zero}
 use native.Mathlib.Numerals.{sub-one}
 use native.Mathlib.Omega.{arith}
-use borrow.Author.Tests.{eq-eqb, ne-eqb, lt-ltb, le-ltb}
+use borrow.Author.Tests.{eq-eqb, ne-eqb}
 use lib.Dec.{eqb}
 use lib.ListN.{length, getD, take, drop, length-append}
 use Rattle.layout.specs.Answer.{Told, got, refused, bare, pick, means}
@@ -19,9 +20,9 @@ use Rattle.layout.specs.Refusals.{PLACE}
 use Rattle.wire.specs.Utf8.{utf8At}
 use Rattle.wire.proofs.laws.Points.{utf8-short}
 use Rattle.tree.specs.Facts.{Ruled}
-use Rattle.tree.specs.Table.{Table, tableAt, parent, startOf, endOf, nameBytes}
+use Rattle.tree.specs.Table.{Table, rows, stops, flags, live, tableAt, parent, startOf, endOf, nameBytes}
 use Rattle.tree.specs.Path.{nameOf, slashAfter, pathOf, pathSaid}
-use Rattle.tree.proofs.Counts.{equal}
+use Rattle.tree.proofs.laws.Counts.{equal}
 use Rattle.tree.proofs.laws.Ways.{at-root, by-parent}
 
 -- ── names ──
@@ -114,10 +115,10 @@ module _ (t : Table) (k : ℕ) where
   unfolding pathSaid
   said-table e = rw (← e)
 
-  pub said-absent : {n : ℕ} → got tt n ≡ tableAt t → length (t .parents) ≤ k → pathSaid t k ≡ no (bare PLACE)
+  pub said-absent : {n : ℕ} → got tt n ≡ tableAt t → live (flags t) k ≡ false → pathSaid t k ≡ no (bare PLACE)
   unfolding pathSaid
-  said-absent e h = rw (← e, le-ltb k (length (t .parents)) h)
+  said-absent e h = rw (← e, h)
 
-  pub said-path : {n : ℕ} → got tt n ≡ tableAt t → k < length (t .parents) → pathSaid t k ≡ says (pathOf (t .parents) (t .ends) (t .names) k)
+  pub said-path : {n : ℕ} → got tt n ≡ tableAt t → live (flags t) k ≡ true → pathSaid t k ≡ says (pathOf (rows t) (stops t) (t .names) k)
   unfolding pathSaid
-  said-path e h = rw (← e, lt-ltb k (length (t .parents)) h)
+  said-path e h = rw (← e, h)

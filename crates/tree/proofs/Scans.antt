@@ -1,21 +1,17 @@
 -- The two loops of the walk: a scan, which still has to put the places from k on that have one parent, and the queue, which grows at each turn.
 -- Assumes nothing.
 use mathlib.Core.Path.{_≡_, refl, ap, _∙_}
-use mathlib.Core.Bool.{Bool, true}
+use mathlib.Core.Bool.{Bool, true, false}
 use mathlib.Core.List.{List, [], _∷_, _++_}
 use Prim.Native.Nat.{ℕ, suc, _+_, _-_, _≤_, _<_}
 use native.Mathlib.Numerals.{add-one}
 use native.Mathlib.Omega.{arith}
-use borrow.Author.Tests.{eq-eqb, ne-eqb}
 use lib.ListN.{length, getD, drop, set, length-append, length-drop, List·getD-append}
 use lib.Seq.{sets, sets-eq, take-append-seam, drop-append-add, drop-drop, drop-set-lt}
 use Rattle.layout.specs.Written.{put, Put}
-use Rattle.tree.specs.Facts.{Ruled}
-use Rattle.tree.specs.Table.{parent}
-use Rattle.tree.specs.Kids.{kidsIn, kids}
-use Rattle.tree.specs.Way.{within}
+use Rattle.tree.specs.Facts.{Ruled, Marks}
+use Rattle.tree.specs.Kids.{hangs, kidsIn, kids}
 use Rattle.tree.specs.Says.{Walks}
-use Rattle.tree.proofs.Tables.{Marks, all-marked}
 use Rattle.tree.proofs.Grown.{Grown, start, room, place, turn, end}
 
 -- ── the scan ──
@@ -25,17 +21,17 @@ unfoldable pub rest : List ℕ → (ℕ → Bool) → ℕ → ℕ → List ℕ
 rest ps has k p = kidsIn (length ps - k) ps has k p
 
 module _ (ps : List ℕ) (has : ℕ → Bool) (k p : ℕ) where
-  pub rest-hit : k < length ps → has k ≡ true → parent ps k ≡ p → rest ps has k p ≡ k ∷ rest ps has (k + 1) p
+  pub rest-hit : k < length ps → hangs ps has p k ≡ true → rest ps has k p ≡ k ∷ rest ps has (k + 1) p
   unfolding rest kidsIn
-  rest-hit h t e =
+  rest-hit h t =
       let m : length ps - k ≡ suc (length ps - suc k) = omega arith in
-      rw (add-one k, m, t, eq-eqb (parent ps k) p e)
+      rw (add-one k, m, t)
 
-  pub rest-miss : k < length ps → has k ≡ true → (parent ps k ≡ p → ⊥) → rest ps has k p ≡ rest ps has (k + 1) p
+  pub rest-miss : k < length ps → hangs ps has p k ≡ false → rest ps has k p ≡ rest ps has (k + 1) p
   unfolding rest kidsIn
-  rest-miss h t e =
+  rest-miss h t =
       let m : length ps - k ≡ suc (length ps - suc k) = omega arith in
-      rw (add-one k, m, t, ne-eqb (parent ps k) p e)
+      rw (add-one k, m, t)
 
   pub rest-none : length ps ≤ k → rest ps has k p ≡ []
   unfolding rest kidsIn
@@ -116,13 +112,13 @@ module _ (ps : List ℕ) (rule : Ruled ps) (has : ℕ → Bool) (marks : Marks p
           }
 
 -- the first store of the code changed the root's place alone
-pub queue-end : (ps : List ℕ) (rule : Ruled ps) {old now : List ℕ} {n i : ℕ} → Queue ps (within ps) (set old 0 0) now n i → n ≤ i → Walks ps old n now
-queue-end ps rule {old} q h =
+pub queue-end : (ps : List ℕ) (rule : Ruled ps) (has : ℕ → Bool) (marks : Marks ps has) {old now : List ℕ} {n i : ℕ} → Queue ps has (set old 0 0) now n i → n ≤ i → Walks ps has old n now
+queue-end ps rule has marks {old} q h =
     let e = q .count in
     let p : 0 < length (q .list) = rw (q .grown .grows) (omega arith) in
     record {
       list = q .list;
-      walk = end ps rule (within ps) (all-marked ps rule) (q .grown) (omega arith);
+      walk = end ps rule has marks (q .grown) (omega arith);
       places = q .places ∙ ap (λ (x : List ℕ). q .list ++ x) (drop-set-lt (length (q .list)) old 0 0 p);
       count = e;
     }

@@ -1,24 +1,21 @@
--- The table's rule as a test and as facts. The test goes entry by entry, so that a loop may carry "what is left of the test is the test", and an
--- induction over the entries turns the test into the facts.
+-- The table's rule as a test that goes entry by entry, so that a loop may carry "what is left of the test is the test". (laws/Sound has the facts that it gives.)
 -- Assumes nothing.
-use mathlib.Core.Path.{_≡_, refl}
-use mathlib.Core.Bool.{Bool, true, false, _&&_, and-eq-true-iff}
-use mathlib.Core.List.{List, [], _∷_}
-use Prim.Native.Nat.{ℕ, zero, suc, _+_, _-_, _≤_, _<_}
-use native.Mathlib.Nat.{add-zero, zero-add, not-suc-le-zero}
+use mathlib.Core.Path.{_≡_, refl, sym, _∙_}
+use mathlib.Core.Bool.{true, false, _&&_}
+use mathlib.Core.List.{List}
+use Prim.Native.Nat.{ℕ, suc, _+_, _-_, _≤_, _<_}
 use native.Mathlib.Numerals.{add-one}
 use native.Mathlib.Omega.{arith}
-use borrow.Author.Tests.{ne-eqb, eqb-true, ltb-true, leb-true, lt-ltb}
+use borrow.Author.Tests.{lt-ltb, le-ltb, le-leb, lt-leb}
 use lib.ListN.{length, getD, take, drop, drop-of-length-le}
-use lib.Dec.{ltb, leb, eqb}
+use lib.Dec.{leb}
 use lib.Seq.{drop-cons}
-use Rattle.layout.specs.Answer.{Told, got, refused, bare, pick}
+use Rattle.layout.specs.Answer.{Told, got, refused, bare}
 use Rattle.layout.proofs.laws.Reading.{follow, stop}
 use Rattle.layout.specs.Refusals.{TABLE}
-use Rattle.layout.proofs.laws.Numbers.{zero-one}
-use Rattle.tree.specs.Facts.{Ruled, Rising, Kept}
-use Rattle.tree.specs.Table.{Table, parent, kept, keptFrom, parentsOk, risesFrom, startOf, endOf, tableOk, nameAt, namesFrom, tableAt}
-use Rattle.tree.specs.Way.{within}
+use Rattle.tree.specs.Facts.{Ruled}
+use Rattle.tree.specs.Table.{Table, rows, stops, flags, upheld, upheldFrom, marksOk, listsOk, kept, keptFrom, parentsOk, risesFrom, startOf, endOf, tableOk, nameAt, namesFrom, tableAt}
+use Rattle.tree.proofs.laws.Sound.{ruled, cut, listed}
 
 -- ── the parent entries ──
 
@@ -35,40 +32,20 @@ pub kept-end : (i : ℕ) (ps : List ℕ) → length ps ≤ i → true ≡ keptFr
 unfolding keptFrom
 kept-end i ps h = rw (drop-of-length-le ps)
 
-kept-lt : (i p : ℕ) → 0 < i → kept i p ≡ true → p < i
-kept-lt i p h e = ltb-true p i (rw (ne-eqb i 0 (λ z. omega arith)) at e)
+-- ── the live marks ──
 
-all : (ps : List ℕ) (i : ℕ) → keptFrom i ps ≡ true → (k : ℕ) → 0 < i + k → k < length ps → getD ps k 0 < i + k
-unfolding keptFrom
-all [] i e k h l = absurd (not-suc-le-zero l)
-all (p ∷ ps) i e zero h l = rw add-zero (kept-lt i p (omega arith) (and-eq-true-iff (kept i p) _ .0 e .0))
-all (p ∷ ps) i e (suc k) h l =
-    let r = all ps (suc i) (and-eq-true-iff (kept i p) (keptFrom (suc i) ps) .0 e .1) k (omega arith) (omega arith) in
-    omega arith
+module _ (k : ℕ) (ps ms : List ℕ) (h : k < length ps) where
+  pub upheld-no : upheld ms k (getD ps k 0) ≡ false → false ≡ upheldFrom k (drop k ps) ms
+  unfolding upheldFrom
+  upheld-no e = rw (drop-cons ps k 0, e)
 
-ruled : (ps : List ℕ) → parentsOk ps ≡ true → Ruled ps
-ruled ps e =
-    let a = and-eq-true-iff (ltb 0 (length ps) && leb (length ps) 1024) (keptFrom 0 ps) .0 e in
-    let b = and-eq-true-iff (ltb 0 (length ps)) (leb (length ps) 1024) .0 (a .0) in
-    record {
-      some = ltb-true 0 (length ps) (b .0);
-      few = leb-true (length ps) 1024 (b .1);
-      smaller = λ k h l. rw zero-add at (all ps 0 (a .1) k (omega arith) l);
-    }
+  pub upheld-on : upheld ms k (getD ps k 0) ≡ true → upheldFrom (k + 1) (drop (k + 1) ps) ms ≡ upheldFrom k (drop k ps) ms
+  unfolding upheldFrom
+  upheld-on e = rw (add-one, drop-cons ps k 0, e)
 
--- which places a question is of: the root is marked, only places are, and so is the parent of what is
-pub record Marks (ps : List ℕ) (has : ℕ → Bool) : Type 0 where
-  pub root : has 0 ≡ true
-  pub place : (k : ℕ) → has k ≡ true → k < length ps
-  pub up : (k : ℕ) → 0 < k → has k ≡ true → has (parent ps k) ≡ true
-
--- all places of a table may be marked
-pub all-marked : (ps : List ℕ) → Ruled ps → Marks ps (within ps)
-all-marked ps rule = record {
-  root = lt-ltb 0 (length ps) (rule .some);
-  place = λ k e. ltb-true k (length ps) e;
-  up = λ k h e. let l = ltb-true k (length ps) e in let s = rule .smaller k h l in lt-ltb (parent ps k) (length ps) (omega arith);
-}
+pub upheld-end : (k : ℕ) (ps ms : List ℕ) → length ps ≤ k → true ≡ upheldFrom k (drop k ps) ms
+unfolding upheldFrom
+upheld-end k ps ms h = rw (drop-of-length-le ps)
 
 -- ── the ends of the names ──
 
@@ -84,19 +61,6 @@ module _ (from k : ℕ) (es : List ℕ) (size : ℕ) (h : k < length es) where
 pub rises-end : (from k : ℕ) (es : List ℕ) (size : ℕ) → length es ≤ k → true ≡ risesFrom from (drop k es) size
 unfolding risesFrom
 rises-end from k es size h = rw (drop-of-length-le es)
-
-each : (from : ℕ) (es : List ℕ) (size : ℕ) → risesFrom from es size ≡ true → (k : ℕ) → k < length es → (getD (from ∷ es) k 0 ≤ getD es k 0) × (getD es k 0 ≤ size)
-unfolding risesFrom
-each from [] size e k h = absurd (not-suc-le-zero h)
-each from (x ∷ es) size e zero h =
-    let a = and-eq-true-iff (leb from x && leb x size) (risesFrom x es size) .0 e .0 in
-    let b = and-eq-true-iff (leb from x) (leb x size) .0 a in
-    (leb-true from x (b .0), leb-true x size (b .1))
-each from (x ∷ es) size e (suc k) h =
-    each x es size (and-eq-true-iff (leb from x && leb x size) (risesFrom x es size) .0 e .1) k (omega arith)
-
-pub rising : (es : List ℕ) (size : ℕ) → risesFrom 0 es size ≡ true → Rising es size
-rising es size e = record { rises = λ k h. each 0 es size e k h .0; within = λ k h. each 0 es size e k h .1 }
 
 -- ── the names ──
 
@@ -120,31 +84,52 @@ names-end k es ns h = let m : length es - k ≡ 0 = omega arith in rw m
 
 -- ── the table ──
 
-pub kept-table : (t : Table) → tableOk t ≡ true → Kept (t .parents) (t .ends) (t .names)
-unfolding tableOk
-kept-table t e =
-    let a = and-eq-true-iff (eqb (length (t .handles)) (length (t .parents)) && eqb (length (t .ends)) (length (t .parents)) && parentsOk (t .parents)) _ .0 e in
-    let b = and-eq-true-iff (eqb (length (t .handles)) (length (t .parents)) && eqb (length (t .ends)) (length (t .parents))) _ .0 (a .0) in
-    let d = and-eq-true-iff (eqb (length (t .handles)) (length (t .parents))) _ .0 (b .0) in
-    record {
-      ruling = ruled (t .parents) (b .1);
-      ended = eqb-true _ _ (d .1);
-      spaced = rising (t .ends) (length (t .names)) (a .1);
-    }
+-- each test of the rule, in the order of the code
+module _ (t : Table) where
+  pub no-lists : listsOk (t .handles) (t .parents) (t .ends) (t .marks) ≡ false → false ≡ tableOk t
+  unfolding tableOk
+  no-lists e = rw e
+
+  module _ (a : listsOk (t .handles) (t .parents) (t .ends) (t .marks) ≡ true) where
+    pub over : 1024 < t .count → false ≡ tableOk t
+    unfolding tableOk
+    over h = rw (a, lt-leb (t .count) 1024 h)
+
+    module _ (h : t .count ≤ 1024) where
+      counted : (length (rows t) ≡ t .count)
+      counted = cut (t .count) (t .parents) (listed (t .handles) (t .parents) (t .ends) (t .marks) a .1) h
+
+      pub none : t .count ≡ 0 → false ≡ tableOk t
+      unfolding tableOk
+      none z = rw (a, le-leb (t .count) 1024 h, le-ltb 0 (length (rows t)) (let n = counted in omega arith))
+
+      module _ (s : t .count ≡ 0 → ⊥) where
+        parents-is : parentsOk (rows t) ≡ keptFrom 0 (rows t)
+        parents-is = let n = counted in rw (lt-ltb 0 (length (rows t)) (omega arith), le-leb (length (rows t)) 1024 (omega arith))
+
+        pub no-parents : keptFrom 0 (rows t) ≡ false → false ≡ tableOk t
+        unfolding tableOk
+        no-parents e = let f = parents-is ∙ e in rw (a, le-leb (t .count) 1024 h, f)
+
+        module _ (b : keptFrom 0 (rows t) ≡ true) where
+          pub rule-of : Ruled (rows t)
+          rule-of = ruled (rows t) (parents-is ∙ b)
+
+          pub flags-long : length (flags t) ≡ length (rows t)
+          flags-long = cut (t .count) (t .marks) (listed (t .handles) (t .parents) (t .ends) (t .marks) a .3) h ∙ sym counted
+
+          pub no-ends : risesFrom 0 (stops t) (length (t .names)) ≡ false → false ≡ tableOk t
+          unfolding tableOk
+          no-ends e = let f = parents-is ∙ b in rw (a, le-leb (t .count) 1024 h, f, e)
+
+          pub by-marks : risesFrom 0 (stops t) (length (t .names)) ≡ true → marksOk (rows t) (flags t) ≡ tableOk t
+          unfolding tableOk
+          by-marks e = let f = parents-is ∙ b in rw (a, le-leb (t .count) 1024 h, f, e)
 
 pub table-no : (t : Table) → tableOk t ≡ false → refused (bare TABLE) ≡ tableAt t
 unfolding tableAt
 table-no t e = rw e
 
-pub table-names : (t : Table) → tableOk t ≡ true → namesFrom 0 (length (t .ends)) (t .ends) (t .names) ≡ tableAt t
+pub table-names : (t : Table) → tableOk t ≡ true → namesFrom 0 (length (stops t)) (stops t) (t .names) ≡ tableAt t
 unfolding tableAt
 table-names t e = rw e
-
--- an accepted table keeps the rule
-pub accepted : (t : Table) {n : ℕ} → got tt n ≡ tableAt t → Kept (t .parents) (t .ends) (t .names)
-unfolding tableAt
-accepted t {n} e = kept-table t (go (tableOk t) e)
-  where
-    go : (b : Bool) → got tt n ≡ pick b (namesFrom 0 (length (t .ends)) (t .ends) (t .names)) (refused (bare TABLE)) → b ≡ true
-    go true e = refl
-    go false e = zero-one (cc)

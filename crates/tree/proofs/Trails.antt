@@ -6,8 +6,8 @@ use mathlib.Core.List.{List, [], _∷_, _++_}
 use Prim.Native.Nat.{ℕ, suc, _+_, _*_, _≤_, _<_}
 use native.Mathlib.Numerals.{add-one}
 use native.Mathlib.Omega.{arith}
-use borrow.Author.Tests.{le-leb, lt-leb, leb-true, leb-false, ltb-true}
-use lib.Dec.{leb, ltb}
+use borrow.Author.Tests.{le-leb, lt-leb, leb-true, leb-false}
+use lib.Dec.{leb}
 use lib.ListN.{length, getD, take, drop, length-append, drop-of-length-le}
 use lib.Seq.{drop-cons, take-at}
 use Rattle.layout.specs.Answer.{Told, Answer, got, refused, bare, pick}
@@ -16,13 +16,13 @@ use Rattle.layout.specs.Written.{says, no, Wrote, Put, leftOf}
 use Rattle.layout.proofs.laws.Numbers.{zero-one}
 use Rattle.layout.proofs.laws.Writing.{refusal, no-room, done}
 use Rattle.layout.specs.Refusals.{ROOM}
-use Rattle.tree.specs.Facts.{Ruled, Kept, Listing}
+use Rattle.tree.specs.Facts.{Ruled, Kept, Marks, Listing}
 use Rattle.tree.specs.Listed.{times, Every, none, more}
-use Rattle.tree.specs.Table.{Table, tableAt}
-use Rattle.tree.specs.Way.{within, Walk}
+use Rattle.tree.specs.Table.{Table, rows, stops, flags, live, tableAt}
+use Rattle.tree.specs.Way.{Walk}
 use Rattle.tree.specs.Path.{pathOf, joined, endsFrom, pathsSaid, endsSaid, Walked, AllPaths}
 use Rattle.tree.specs.Says.{Walks}
-use Rattle.tree.proofs.Counts.{hit, pigeon}
+use Rattle.tree.proofs.laws.Counts.{hit, pigeon}
 use Rattle.tree.proofs.Routes.{path-short}
 
 -- ── one at a time ──
@@ -67,20 +67,20 @@ every-there : {P : ℕ → Type 0} (l : List ℕ) → ((k : ℕ) → 0 < times k
 every-there [] f = none
 every-there (x ∷ l) f = more (f x (omega (arith, hit x x l refl))) (every-there l (λ k h. f k (omega arith)))
 
-once-there : (n k t : ℕ) (b : Bool) → ltb k n ≡ b → t ≡ pick b 1 0 → (t ≤ 1) × (0 < t → k < n) × (n ≤ k → t ≡ 0)
-once-there n k t true e h = let j = ltb-true k n e in (omega arith, λ p. j, λ p. absurd (omega arith))
+once-there : (n k t : ℕ) (b : Bool) → (b ≡ true → k < n) → t ≡ pick b 1 0 → (t ≤ 1) × (0 < t → k < n) × (n ≤ k → t ≡ 0)
+once-there n k t true e h = let j = e refl in (omega arith, λ p. j, λ p. absurd (omega arith))
 once-there n k t false e h = (omega arith, λ p. absurd (omega arith), λ p. h)
 
-pub listing : {ps es ns l : List ℕ} → Kept ps es ns → Walk ps (within ps) l → Listing ps es ns l
-listing {ps} {es} {ns} {l} kept w =
-    let at : (k : ℕ) → (times k l ≤ 1) × (0 < times k l → k < length ps) × (length ps ≤ k → times k l ≡ 0) = λ k. once-there (length ps) k (times k l) (ltb k (length ps)) refl (w .once k) in
+pub listing : {ps es ns l : List ℕ} {has : ℕ → Bool} → Kept ps es ns → Marks ps has → Walk ps has l → Listing ps es ns l
+listing {ps} {es} {ns} {l} {has} kept marks w =
+    let at : (k : ℕ) → (times k l ≤ 1) × (0 < times k l → k < length ps) × (length ps ≤ k → times k l ≡ 0) = λ k. once-there (length ps) k (times k l) (has k) (marks .place k) (w .once k) in
     let few = pigeon (length ps) l (λ k. at k .0) (λ k. at k .2) in
     let most = kept .ruling .few in
     record { kept = kept; places = every-there l (λ k. at k .1); few = omega arith }
 
 -- the front of the queue is the walk
-pub front : {ps old new : List ℕ} {n : ℕ} → Walks ps old n new → Walk ps (within ps) (take n new) × (length (take n new) ≡ n) × (n ≤ length new)
-front {ps} {old} {new} {n} w =
+pub front : {ps old new : List ℕ} {has : ℕ → Bool} {n : ℕ} → Walks ps has old n new → Walk ps has (take n new) × (length (take n new) ≡ n) × (n ≤ length new)
+front {ps} {old} {new} {has} {n} w =
     let e : take n new ≡ w .list = rw (w .places) (take-at (w .list) (drop (length (w .list)) old) n (sym (w .count))) in
     (rw e (w .walk), ap length e ∙ sym (w .count), omega (arith, w .count, simp length-append at (ap length (w .places))))
 
@@ -90,7 +90,7 @@ module _ (t : Table) (out : List ℕ) where
   pub walk-refused : {why : Told} → refused why ≡ tableAt t → Walked t out (refused why) out
   walk-refused e = record { order = []; walked = λ n f. zero-one (cc); wrote = refusal (rw (← e)) }
 
-  pub walk-given : {n : ℕ} {l new : List ℕ} {a : Answer (Unit {0})} → got tt n ≡ tableAt t → Walk (t .parents) (within (t .parents)) l → Wrote (says l) out a new → Walked t out a new
+  pub walk-given : {n : ℕ} {l new : List ℕ} {a : Answer (Unit {0})} → got tt n ≡ tableAt t → Walk (rows t) (live (flags t)) l → Wrote (says l) out a new → Walked t out a new
   walk-given {l = l} e w h = record { order = l; walked = λ n f. w; wrote = rw (← e) h }
 
 -- ── what is said of all ──
@@ -105,15 +105,15 @@ module _ (t : Table) (out ends : List ℕ) where
     left = rw (← e);
   }
 
-  module _ {n : ℕ} (e : got tt n ≡ tableAt t) (l : List ℕ) (w : Walk (t .parents) (within (t .parents)) l) where
+  module _ {n : ℕ} (e : got tt n ≡ tableAt t) (l : List ℕ) (w : Walk (rows t) (live (flags t)) l) where
     abbrev bytes : List ℕ
-    bytes = joined (t .parents) (t .ends) (t .names) l
+    bytes = joined (rows t) (stops t) (t .names) l
 
     abbrev places : List ℕ
-    places = endsFrom 0 (t .parents) (t .ends) (t .names) l
+    places = endsFrom 0 (rows t) (stops t) (t .names) l
 
     places-long : length places ≡ length l
-    places-long = ends-long (t .parents) (t .ends) (t .names) l 0
+    places-long = ends-long (rows t) (stops t) (t .names) l 0
 
     said-paths : length l ≤ length ends → pathsSaid t l (length ends) ≡ says bytes
     unfolding pathsSaid

@@ -1,6 +1,7 @@
 -- What the table's rule gives, as facts: the private functions ask for these. No public promise names them.
 -- Assumes nothing.
 use mathlib.Core.Path.{_≡_}
+use mathlib.Core.Bool.{Bool, true}
 use mathlib.Core.List.{List}
 use Prim.Native.Nat.{ℕ, _≤_, _<_}
 use lib.ListN.{length}
@@ -12,6 +13,12 @@ pub record Ruled (ps : List ℕ) : Type 0 where
   pub some : 0 < length ps
   pub few : length ps ≤ 1024
   pub smaller : (k : ℕ) → 0 < k → k < length ps → parent ps k < k
+
+-- of the live marks: the root is live, only places are, and so is the parent of what is
+pub record Marks (ps : List ℕ) (has : ℕ → Bool) : Type 0 where
+  pub root : has 0 ≡ true
+  pub place : (k : ℕ) → has k ≡ true → k < length ps
+  pub up : (k : ℕ) → 0 < k → has k ≡ true → has (parent ps k) ≡ true
 
 -- of the ends
 pub record Rising (es : List ℕ) (size : ℕ) : Type 0 where

@@ -1,4 +1,5 @@
 pub mod Table
+pub mod Rule
 pub mod Listed
 pub mod Way
 pub mod Path

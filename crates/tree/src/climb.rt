@@ -61,26 +61,31 @@ pub(crate) fn put_path(
     name::put_name(ends, names, place, out, b)
 }
 
-// The path of a place: the table's refusals, 12 for a place that does not exist, then 9.
+// The path of a place: the table's refusals, 12 for a place that is not live, then 9.
 pub fn path(
     handles: &[u32],
     parents: &[u16],
     ends: &[u32],
+    marks: &[u8],
+    count: usize,
     names: &[u8],
     place: usize,
     out: &mut [u8],
 ) -> Written
-    ensures { λ r. ⌜ Wrote (pathSaid (table (now (handles .entry)) (now (parents .entry)) (now (ends .entry)) (now (names .entry))) place) (now (out .entry)) (saysWritten r) (now (out .exit)) ⌝ }
+    ensures { λ r. ⌜ Wrote (pathSaid (table (now (handles .entry)) (now (parents .entry)) (now (ends .entry)) (now (marks .entry)) count (now (names .entry))) place) (now (out .entry)) (saysWritten r) (now (out .exit)) ⌝ }
 {
-    match table::check_table(handles, parents, ends, names) {
+    match table::check_table(handles, parents, ends, marks, count, names) {
         Checked::Whole(_) => {
-            if parents.len() <= place {
+            if count <= place {
                 return Written::Refused(layout::plain(layout::PLACE));
             }
-            if out.len() < path_len(parents, ends, names, place) {
+            if marks[place] == 0 {
+                return Written::Refused(layout::plain(layout::PLACE));
+            }
+            if out.len() < path_len(&parents[..count], &ends[..count], names, place) {
                 return Written::Refused(layout::plain(layout::ROOM));
             }
-            Written::Done(put_path(parents, ends, names, place, out, 0))
+            Written::Done(put_path(&parents[..count], &ends[..count], names, place, out, 0))
         }
         Checked::Refused(f) => Written::Refused(f),
     }

@@ -57,24 +57,33 @@ pub fn paths(
     handles: &[u32],
     parents: &[u16],
     ends: &[u32],
+    marks: &[u8],
+    count: usize,
     names: &[u8],
     out: &mut [u8],
     out_ends: &mut [u32],
 ) -> Written
-    ensures { λ r. ⌜ AllPaths (table (now (handles .entry)) (now (parents .entry)) (now (ends .entry)) (now (names .entry))) (now (out .entry)) (now («out_ends» .entry)) (saysWritten r) (now (out .exit)) (now («out_ends» .exit)) ⌝ }
+    ensures { λ r. ⌜ AllPaths (table (now (handles .entry)) (now (parents .entry)) (now (ends .entry)) (now (marks .entry)) count (now (names .entry))) (now (out .entry)) (now («out_ends» .entry)) (saysWritten r) (now (out .exit)) (now («out_ends» .exit)) ⌝ }
 {
-    match table::check_table(handles, parents, ends, names) {
+    match table::check_table(handles, parents, ends, marks, count, names) {
         Checked::Whole(_) => {
             let mut places = [0u16; 1024];
-            let count = queue::walk_ruled(parents, &mut places);
-            if out_ends.len() < count {
+            let n = queue::walk_ruled(&parents[..count], &marks[..count], &mut places);
+            if out_ends.len() < n {
                 return Written::Refused(layout::plain(layout::ROOM));
             }
-            let need = paths_len(parents, ends, names, &places[..count]);
+            let need = paths_len(&parents[..count], &ends[..count], names, &places[..n]);
             if out.len() < need {
                 return Written::Refused(layout::plain(layout::ROOM));
             }
-            Written::Done(put_paths(parents, ends, names, &places[..count], out, out_ends))
+            Written::Done(put_paths(
+                &parents[..count],
+                &ends[..count],
+                names,
+                &places[..n],
+                out,
+                out_ends,
+            ))
         }
         Checked::Refused(f) => Written::Refused(f),
     }

@@ -10,6 +10,7 @@ pub use every::paths;
 use layout::Refusal;
 pub use queue::walk;
 pub use queue::walk_into;
+pub use table::check_name;
 pub use table::check_table;
 
 // How many there are.

@@ -3,8 +3,9 @@ ghost use mathlib.Core.Path.{_≡_};
 ghost use mathlib.Core.Bool.{_&&_};
 ghost use lib.Dec.{leb};
 ghost use lib.ListN.{length};
-ghost use Rattle.tree.specs.Facts.{Rising};
-ghost use Rattle.tree.specs.Table.{table, kept, keptFrom, risesFrom, tableOk, nameAt, namesFrom, tableAt};
+ghost use Prim.Native.Nat.{_<_};
+ghost use Rattle.tree.specs.Facts.{Ruled, Rising};
+ghost use Rattle.tree.specs.Table.{table, kept, keptFrom, upheld, upheldFrom, marksOk, listsOk, risesFrom, tableOk, nameAt, namesFrom, tableAt};
 ghost use Rattle.tree.specs.Says.{saysChecked};
 use crate::Checked;
 use wire::Cursor;
@@ -23,6 +24,36 @@ fn parents_ok(parents: &[u16]) -> bool
     let mut k: usize = 0;
     while k < parents.len() {
         if !entry_ok(k, parents[k] as usize) {
+            return false;
+        }
+        k += 1;
+    }
+    true
+}
+
+// Whether a place hangs under a live one, if it is live.
+fn mark_ok(marks: &[u8], k: usize, p: usize) -> bool
+    requires { ⌜ k < length (now marks) ⌝ }
+    requires { ⌜ p < length (now marks) ⌝ }
+    ensures { λ r. ⌜ r ≡ upheld (now (marks .entry)) k p ⌝ }
+{
+    if marks[k] == 0 {
+        return true;
+    }
+    0 < marks[p]
+}
+
+fn marks_ok(parents: &[u16], marks: &[u8]) -> bool
+    requires { ⌜ Ruled (now parents) ⌝ }
+    requires { ⌜ length (now marks) ≡ length (now parents) ⌝ }
+    ensures { λ r. ⌜ r ≡ marksOk (now (parents .entry)) (now (marks .entry)) ⌝ }
+{
+    if marks[0] == 0 {
+        return false;
+    }
+    let mut k: usize = 1;
+    while k < parents.len() {
+        if !mark_ok(marks, k, parents[k] as usize) {
             return false;
         }
         k += 1;
@@ -53,30 +84,52 @@ fn ends_ok(ends: &[u32], size: usize) -> bool
     true
 }
 
-fn table_ok(handles: &[u32], parents: &[u16], ends: &[u32], names: &[u8]) -> bool
-    ensures { λ r. ⌜ r ≡ tableOk (table (now (handles .entry)) (now (parents .entry)) (now (ends .entry)) (now (names .entry))) ⌝ }
+// Whether each of the four lists has 1,024 places.
+fn lists_ok(handles: &[u32], parents: &[u16], ends: &[u32], marks: &[u8]) -> bool
+    ensures { λ r. ⌜ r ≡ listsOk (now (handles .entry)) (now (parents .entry)) (now (ends .entry)) (now (marks .entry)) ⌝ }
 {
-    let n = parents.len();
-    if handles.len() != n {
+    if handles.len() != 1024 {
         return false;
     }
-    if ends.len() != n {
+    if parents.len() != 1024 {
         return false;
     }
-    if n == 0 {
+    if ends.len() != 1024 {
         return false;
     }
-    if 1024 < n {
+    marks.len() == 1024
+}
+
+fn table_ok(
+    handles: &[u32],
+    parents: &[u16],
+    ends: &[u32],
+    marks: &[u8],
+    count: usize,
+    names: &[u8],
+) -> bool
+    ensures { λ r. ⌜ r ≡ tableOk (table (now (handles .entry)) (now (parents .entry)) (now (ends .entry)) (now (marks .entry)) count (now (names .entry))) ⌝ }
+{
+    if !lists_ok(handles, parents, ends, marks) {
         return false;
     }
-    if !parents_ok(parents) {
+    if 1024 < count {
         return false;
     }
-    ends_ok(ends, names.len())
+    if count == 0 {
+        return false;
+    }
+    if !parents_ok(&parents[..count]) {
+        return false;
+    }
+    if !ends_ok(&ends[..count], names.len()) {
+        return false;
+    }
+    marks_ok(&parents[..count], &marks[..count])
 }
 
 // A name: wholly one string.
-fn check_name(s: &[u8]) -> Checked
+pub fn check_name(s: &[u8]) -> Checked
     ensures { λ r. ⌜ saysChecked r ≡ nameAt (now (s .entry)) ⌝ }
 {
     match (Cursor { at: 0 }).text(s) {
@@ -111,11 +164,18 @@ fn check_names(ends: &[u32], names: &[u8]) -> Checked
 }
 
 // How many objects a table has, or the first refusal: 11, then each name's 1, 2, 3 in table order.
-pub fn check_table(handles: &[u32], parents: &[u16], ends: &[u32], names: &[u8]) -> Checked
-    ensures { λ r. ⌜ saysChecked r ≡ tableAt (table (now (handles .entry)) (now (parents .entry)) (now (ends .entry)) (now (names .entry))) ⌝ }
+pub fn check_table(
+    handles: &[u32],
+    parents: &[u16],
+    ends: &[u32],
+    marks: &[u8],
+    count: usize,
+    names: &[u8],
+) -> Checked
+    ensures { λ r. ⌜ saysChecked r ≡ tableAt (table (now (handles .entry)) (now (parents .entry)) (now (ends .entry)) (now (marks .entry)) count (now (names .entry))) ⌝ }
 {
-    if !table_ok(handles, parents, ends, names) {
+    if !table_ok(handles, parents, ends, marks, count, names) {
         return Checked::Refused(layout::plain(layout::TABLE));
     }
-    check_names(ends, names)
+    check_names(&ends[..count], names)
 }

@@ -1,4 +1,4 @@
--- The demand of a property's description, as End states it, settles every part: in whatever answer meets it, each part is as a whole a word with the
+-- The demand of a property's description, as Anywhere states it, settles every part: in whatever answer meets it, each part is as a whole a word with the
 -- reading's own value. So no reader whose parts are too short, too long or of another number meets it.
 -- Assumes nothing.
 use mathlib.Core.Path.{_≡_, refl}
@@ -13,21 +13,21 @@ use lib.Seq.{take-take}
 use Rattle.layout.specs.Answer.{Answer, got, refused, pick}
 use Rattle.layout.specs.Bytes.{Bytes}
 use Rattle.layout.specs.Codec.{Codec}
-use Rattle.layout.specs.Faithful.{Kept}
 use Rattle.layout.specs.Format.{Format}
 use Rattle.layout.specs.Grammar.{loose, Grammar, empty, both, lead, as′, Repeat}
 use Rattle.layout.specs.Placed.{Inside}
 use Rattle.layout.proofs.laws.Make.{repeat-format}
 use Rattle.layout.proofs.laws.Numbers.{Bytes-take, Bytes-drop, zero-one}
 use Rattle.layout.proofs.laws.Words.{fits, part-there}
-use Rattle.layout.proofs.laws.Meets.{read-word, lies-got, kept}
+use Rattle.layout.proofs.laws.Meets.{read-word, lies-got}
 use Rattle.wire.specs.Description.{PropInfo}
 use Rattle.wire.specs.declared.property.Slot.{Slot}
 use Rattle.wire.specs.Description as placed
 use Rattle.wire.specs.Layout.{Val, Shape, one, many, string, undef, shape, Shaped, Value, Form, range, list, no-form, Formed, Reading, Property}
-use Rattle.wire.specs.Codecs.{property}
+use Rattle.wire.specs.Anywhere.{ExactAt}
 use Rattle.wire.specs.Property.{bytesOf, filling, none-of, slotIn, valuesIn, formIn, propertyIn, propertyAt}
 use Rattle.wire.specs.Worded.{Worded, WordedForm, a-range, a-list, absent, WordedProperty}
+use Rattle.wire.proofs.Anywhere.{exact-at}
 use Rattle.wire.proofs.Described.{property-parts, form-parts, properties}
 use Rattle.wire.proofs.laws.Formats.{value-format, property-format}
 
@@ -111,18 +111,19 @@ module _ (s : List ℕ) (h : Bytes s) where
   values-pinned : (t n m : ℕ) (p : Slot) → p .start ≤ length s → Spelled (Repeat m (Value t)) (valuesIn t s p n) → Worded (Repeat n (Value t)) s p (valuesIn t s p n)
   values-pinned t n m p from w = pinned (repeat-format n (value-format t)) p from (none-of (shape t) ∷ []) (some-values t m (w .0) (valuesIn t s p n) (w .1))
 
-  module _ (n : ℕ) (within : n ≤ length s) where
-    form-pinned : (t : ℕ) (f : placed.Form) → Inside 0 n (form-parts f) → FormSpelled t (formIn t s f) → WordedForm t s f (formIn t s f)
+  module _ (at n : ℕ) (within : n ≤ length s) where
+    form-pinned : (t : ℕ) (f : placed.Form) → Inside at n (form-parts f) → FormSpelled t (formIn t s f) → WordedForm t s f (formIn t s f)
     form-pinned t (placed.range a b c) i (of-range u v w) = a-range (slot-pinned t a (omega arith) u) (slot-pinned t b (omega arith) v) (slot-pinned t c (omega arith) w)
     form-pinned t (placed.list p k) i (of-list m w) = a-list (values-pinned t k m p (omega arith) w)
     form-pinned t placed.absent i of-none = absent
 
-  pub settled : (there : Bool) (y : Answer PropInfo) → Kept (Property there) (property there) (propertyIn s) property-parts s y → (x : PropInfo) (n : ℕ) → y ≡ got x n → WordedProperty s x (propertyIn s x)
-  settled there y k x n e =
-      let a = k .exact .accepts x n e in
-      let w = reading-spelled there (take n s) (propertyIn s x) (a .reads) in
+  pub settled : (there : Bool) (at : ℕ) → at ≤ length s → (y : Answer PropInfo) → ExactAt (Property there) (propertyIn s) property-parts s at y
+      → (x : PropInfo) (n : ℕ) → y ≡ got x n → WordedProperty s x (propertyIn s x)
+  settled there at from y k x n e =
+      let (far, a) = k .accepts x n e in
+      let w = reading-spelled there (take (n - at) (drop at s)) (propertyIn s x) (a .reads) in
       let i = lies-got (k .inside) e .1 in
-      let within = a .within in
+      let within : n ≤ length s = omega (arith, a .within, length-drop at s) in
       record {
         code = refl;
         type = refl;
@@ -130,9 +131,9 @@ module _ (s : List ℕ) (h : Bytes s) where
         enable = refl;
         default = slot-pinned (x .«data_type») (x .«factory_default») (omega arith) (w .default);
         current = slot-pinned (x .«data_type») (x .current) (omega arith) (w .current);
-        form = form-pinned n within (x .«data_type») (x .form) (i .3 .3) (w .form);
+        form = form-pinned at n within (x .«data_type») (x .form) (i .3 .3) (w .form);
       }
 
   -- and so are those of the description that is read
   pub held : (there : Bool) (x : PropInfo) (n : ℕ) → propertyAt there s 0 ≡ got x n → WordedProperty s x (propertyIn s x)
-  held there x n e = settled there (propertyAt there s 0) (kept (property-format there) (properties there) s h (propertyAt there s 0) refl) x n e
+  held there x n e = settled there 0 (omega arith) (propertyAt there s 0) (exact-at (property-format there) (properties there) s h 0 (propertyAt there s 0) refl) x n e

@@ -73,10 +73,10 @@ module _ (s : List ℕ) where
   enable-ends true at = when-after _ (number-ends 1 at) λ v n i. when (some v) n i
   enable-ends false at = when none at (omega arith)
 
-  property-order : (has : Bool) → When (λ x n. InOrder x n) (propertyAt has s 0)
+  property-order : (has : Bool) (at : ℕ) → When (λ x n. InOrder at x n) (propertyAt has s at)
   unfolding propertyAt
-  property-order has =
-      when-after _ (number-ends 2 0) λ _ a i.
+  property-order has at =
+      when-after _ (number-ends 2 at) λ _ a i.
       when-after _ (number-ends 2 a) λ t b j.
       when-after _ (number-ends 1 b) λ _ c k.
       when-after _ (enable-ends has c) λ _ d l.
@@ -85,9 +85,9 @@ module _ (s : List ℕ) where
       when-after _ (form-order t f) λ z n w.
       when _ n (record { default = omega (arith, u .0, i, j, k, l); current = v .0 ∙ u .1; form = rw (← v .1) w })
 
-  pub in-order : (has : Bool) (x : PropInfo) (n : ℕ) → propertyAt has s 0 ≡ got x n → InOrder x n
-  in-order has x n e = go (propertyAt has s 0) (property-order has) e
+  pub in-order : (has : Bool) (at : ℕ) (x : PropInfo) (n : ℕ) → propertyAt has s at ≡ got x n → InOrder at x n
+  in-order has at x n e = go (propertyAt has s at) (property-order has at) e
     where
-      go : (y : Answer PropInfo) → When (λ x n. InOrder x n) y → y ≡ got x n → InOrder x n
+      go : (y : Answer PropInfo) → When (λ x n. InOrder at x n) y → y ≡ got x n → InOrder at x n
       go (got z m) (when z′ m′ w) e = let f : z ≡ x = cc in let g : m ≡ n = cc in rw (f, g) at w
       go (refused u) never e = zero-one (cc)

@@ -12,3 +12,6 @@ pub mod Picked
 pub mod Judged
 pub mod ReadBack
 pub mod Told
+pub mod Grounds
+pub mod Kinds
+pub mod Integers

@@ -76,9 +76,9 @@ FormInOrder at n (form.range a b c) = (a .start ≡ at + 1) × (b .start ≡ end
 FormInOrder at n (form.list p count) = (p .start ≡ at + 3) × (n ≡ ends p)
 FormInOrder at n form.absent = n ≡ at + 1
 
--- the parts follow each other, behind the four numbers, without a gap
-pub record InOrder (x : PropInfo) (n : ℕ) : Type 0 where
-  pub default : x .«factory_default» .start ≡ 5 + length (enable-write (x .«is_enable»))
+-- of a description at a place: the parts follow each other, behind the four numbers, without a gap
+pub record InOrder (at : ℕ) (x : PropInfo) (n : ℕ) : Type 0 where
+  pub default : x .«factory_default» .start ≡ at + 5 + length (enable-write (x .«is_enable»))
   pub current : x .current .start ≡ ends (x .«factory_default»)
   pub form : FormInOrder (ends (x .current)) n (x .form)
 

@@ -1,8 +1,6 @@
-//! Commands, answers, object tables and records.
+//! Commands, answers and records.
 use super::{datasets, show, words};
-use ptp_proved::{
-    copy_recording, find_answer, mend_recording, read_record, Answer, Made, ObjectTable, PtpRecord, Refusal, Session,
-};
+use ptp_proved::{copy_recording, find_answer, mend_recording, read_record, Answer, Made, PtpRecord, Refusal, Session};
 
 // The session that was asked, at its state before; and what it made: the number sent, and how many bytes.
 fn made(state: u32, session: Session, made: Result<(u32, usize), Refusal>, out: &[u8]) -> String {
@@ -106,69 +104,6 @@ pub fn answer(number: &str, s: &str) -> Option<String> {
         }
         Ok((Answer::Response(code), next)) => format!("ok response {code} {next}"),
         Err(why) => show::refusal(why),
-    })
-}
-
-struct Table {
-    handles: Vec<u32>,
-    parents: Vec<u16>,
-    ends: Vec<u32>,
-    names: Vec<u8>,
-}
-
-impl Table {
-    fn read([handles, parents, ends, names]: [&str; 4]) -> Option<Table> {
-        Some(Table {
-            handles: words::list(handles, words::half)?,
-            parents: words::list(parents, words::short)?,
-            ends: words::list(ends, words::half)?,
-            names: words::bytes(names)?,
-        })
-    }
-
-    fn lent(&self) -> ObjectTable<'_> {
-        ObjectTable { handles: &self.handles, parents: &self.parents, ends: &self.ends, names: &self.names }
-    }
-}
-
-pub fn walk(table: [&str; 4]) -> Option<String> {
-    let table = Table::read(table)?;
-    let mut places = vec![0xA5A5; table.handles.len()];
-    Some(match table.lent().walk(&mut places) {
-        Ok(order) => format!("ok {}", show::numbers(order)),
-        Err(why) => {
-            assert!(places.iter().all(|&place| place == 0xA5A5), "a refused walk wrote");
-            show::refusal(why)
-        }
-    })
-}
-
-pub fn paths(table: [&str; 4], room: &str) -> Option<String> {
-    let table = Table::read(table)?;
-    let mut out = words::room(room)?;
-    let mut ends = vec![0xA5A5; table.handles.len()];
-    let answer = table.lent().paths(&mut out, &mut ends).map(|paths| {
-        let all: String = paths.iter().collect();
-        assert_eq!(all.as_bytes(), paths.bytes());
-        (paths.bytes().len(), show::numbers(paths.ends()))
-    });
-    Some(match answer {
-        Ok((count, ends)) => format!("ok {count} {} {ends}", show::bytes(&out)),
-        Err(why) => {
-            assert!(ends.iter().all(|&end| end == 0xA5A5), "refused paths wrote an end");
-            format!("{} {}", show::refusal(why), show::bytes(&out))
-        }
-    })
-}
-
-pub fn path(table: [&str; 4], place: &str, room: &str) -> Option<String> {
-    let table = Table::read(table)?;
-    let place = words::size(place)?;
-    let mut out = words::room(room)?;
-    let answer = table.lent().path(place, &mut out).map(str::len);
-    Some(match answer {
-        Ok(count) => format!("ok {count} {}", show::bytes(&out)),
-        Err(why) => format!("{} {}", show::refusal(why), show::bytes(&out)),
     })
 }
 

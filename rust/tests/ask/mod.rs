@@ -3,6 +3,7 @@ mod datasets;
 mod links;
 mod settings;
 mod show;
+mod tables;
 mod values;
 mod words;
 
@@ -11,7 +12,7 @@ use ptp_proved::{
 };
 
 /// Every kind that is compared.
-pub const KINDS: [&str; 46] = [
+pub const KINDS: [&str; 49] = [
     "response-name",
     "command-name",
     "value",
@@ -51,6 +52,9 @@ pub const KINDS: [&str; 46] = [
     "walk",
     "path",
     "paths",
+    "delete",
+    "collect",
+    "add",
     "settings",
     "settings-find",
     "settings-store",
@@ -78,9 +82,7 @@ pub fn answer(kind: &str, words: &[&str]) -> Option<String> {
         }
         ("call", [name, state, storage, filter, handle, room]) => links::call(name, state, [storage, filter, handle], room),
         ("answer", [number, s]) => links::answer(number, s),
-        ("walk", [handles, parents, ends, names]) => links::walk([handles, parents, ends, names]),
-        ("path", [handles, parents, ends, names, place, room]) => links::path([handles, parents, ends, names], place, room),
-        ("paths", [handles, parents, ends, names, room]) => links::paths([handles, parents, ends, names], room),
+        ("walk" | "path" | "paths" | "delete" | "collect" | "add", _) => tables::answer(kind, words),
         ("settings", [edition, row]) => settings::row(edition, row),
         ("settings-find", [edition, row, vendor, property, serial]) => settings::find(edition, row, vendor, property, serial),
         ("settings-store", [edition, row, entry, room]) => settings::store(edition, row, entry, room),

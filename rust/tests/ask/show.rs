@@ -31,7 +31,7 @@ pub fn numbers<T: Display>(numbers: impl IntoIterator<Item = T>) -> String {
 }
 
 /// Equal neighbours as one, with their count.
-pub fn runs(mut list: &[u64]) -> String {
+pub fn runs<T: Display + PartialEq>(mut list: &[T]) -> String {
     let mut words = vec![];
     while let Some(first) = list.first() {
         let times = list.iter().take_while(|each| *each == first).count();

@@ -14,6 +14,10 @@ pub fn number(word: &str, largest: u64) -> Option<u64> {
     u64::from_str_radix(digits, radix).ok().filter(|&n| n <= largest)
 }
 
+pub fn byte(word: &str) -> Option<u8> {
+    number(word, u8::MAX.into()).map(|n| n as u8)
+}
+
 pub fn short(word: &str) -> Option<u16> {
     number(word, u16::MAX.into()).map(|n| n as u16)
 }
@@ -26,12 +30,20 @@ pub fn size(word: &str) -> Option<usize> {
     number(word, u64::MAX).map(|n| n as usize)
 }
 
-pub fn list<T>(word: &str, read: fn(&str) -> Option<T>) -> Option<Vec<T>> {
-    if word == "-" {
-        return Some(vec![]);
+/// Numbers joined by commas, each alone or as `N*TIMES`.
+pub fn list<T: Clone>(word: &str, read: fn(&str) -> Option<T>) -> Option<Vec<T>> {
+    let mut numbers = vec![];
+    for each in word.split(',').filter(|_| word != "-") {
+        let (one, times) = match each.split_once('*') {
+            Some((one, times)) => (one, number(times, LONGEST_LIST as u64).filter(|&times| times > 0)?),
+            None => (each, 1),
+        };
+        numbers.resize(numbers.len() + times as usize, read(one)?);
+        if numbers.len() > LONGEST_LIST {
+            return None;
+        }
     }
-    let numbers: Vec<T> = word.split(',').map(read).collect::<Option<_>>()?;
-    (numbers.len() <= LONGEST_LIST).then_some(numbers)
+    Some(numbers)
 }
 
 pub fn bytes(word: &str) -> Option<Vec<u8>> {

@@ -4,10 +4,10 @@ use Rattle.copy.proofs.main.Statement.{statement}
 use Rattle.copy.proofs.main.Tie as tie
 
 abbrev Inv-loop : tie.InvT-loop
-Inv-loop window₀ out₀ stand₀ turns₀ window out stand turns = Unit {0}
+Inv-loop window₀ out₀ report₀ stand₀ turns₀ window out report stand turns = Unit {0}
 
 abbrev μ-loop : tie.MeasureT-loop
-μ-loop window₀ out₀ stand₀ turns₀ window out stand turns = turns
+μ-loop window₀ out₀ report₀ stand₀ turns₀ window out report stand turns = turns
 
 pub main-spec : {M : Type 1} → statement M
 main-spec =
@@ -15,6 +15,7 @@ main-spec =
     (tie.spec
     Inv-loop
     μ-loop
+    (λ c κs. search needs)
     (λ c κs. search needs)
     (λ c κs. search needs)
     (λ c. tt)

@@ -10,7 +10,7 @@ use Rattle.layout.specs.Answer.{Told, Answer, got, refused, Reader, mean
 use Rattle.layout.specs.Bytes.{Bytes}
 use Rattle.layout.specs.Codec.{Codec}
 use Rattle.layout.specs.Faithful.{Faithful}
-use Rattle.layout.specs.Fault.{Fault, Begins, Spoilt, Ends, BadText, Refuses, Stays, same, more, Settled, good, bad, Final, Decides, Alike, both-read, both-end, both-text, Blames, fine, fault, cut, Faulted}
+use Rattle.layout.specs.Fault.{Fault, Begins, Spoilt, Ends, BadText, Refuses, Settled, good, bad, Final, Decides, Alike, both-read, both-end, both-text, Blames, fine, fault, cut, Faulted}
 use Rattle.layout.specs.Format.{Stands, Sound, word, none, Format}
 use Rattle.layout.specs.Grammar.{Grammar}
 use Rattle.layout.specs.Placed.{Placed}
@@ -104,19 +104,6 @@ module _ {R : Type 0} {G : Grammar R} {B : Fault} {F : Codec R} (f : Format G F)
   pub refuses-exactly : {L : Type 0} {mean : List ℕ → L → R} {parts : L → List (ℕ × ℕ)} {place : Reader L} → Placed mean parts place (F .read)
       → (s : List ℕ) → Bytes s → (at : ℕ) (x : Answer L) → x ≡ place s at → Refuses G B (drop at s) x
   refuses-exactly {mean} P s h at x promised = refuses-as (mean s) s h at x (ap (means (mean s)) promised ∙ P .agrees s at)
-
--- a refusal is 1 or 2, of any bytes: for some that follow there is an answer other than 1, and it stays
-pub end-or-text : {R L : Type 0} {B : Fault} {F : Codec R} {mean : List ℕ → L → R} {parts : L → List (ℕ × ℕ)} {place : Reader L} → Faulted B F → Placed mean parts place (F .read)
-    → (s : List ℕ) (at : ℕ) (t : Told) → place s at ≡ refused t → (t .no ≡ END) ⊎ (t .no ≡ TEXT)
-unfolding means endAt badText
-end-or-text {R} {F} {mean} b p s at t e =
-    let o = b .opens s at in
-    go (b .final s (o .0) at) (o .1 .1) (sym (p .agrees s at) ∙ rw e)
-  where
-    go : {x y : Answer R} → Stays x y → Settled y → x ≡ refused t → (t .no ≡ END) ⊎ (t .no ≡ TEXT)
-    go same good e = zero-one (cc)
-    go same (bad q) e = inr (let is : t ≡ badText q = cc in ap (λ (u : Told). u .no) is)
-    go (more q) settled e = inl (let is : t ≡ endAt q = cc in ap (λ (u : Told). u .no) is)
 
 -- ── words and faults determine the answer ──
 

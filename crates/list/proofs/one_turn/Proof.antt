@@ -8,7 +8,7 @@ use Rattle.list.proofs.one_turn.Tie as tie
 read-on-requires : tie.Need-read-on-requires
 read-on-requires c κs =
     let k = c .before .before .before .before .before .before .before .before in
-    held-within (now (k .before .before .before .args .window)) (k .before .before .before .args .s) (k .take-turn .ensures) (c .before .enum-told2 .given .1)
+    held-within (now (k .before .before .before .args .window)) (k .before .before .before .args .s .hold) _ (k .take-turn .ensures) (c .before .enum-told2 .given .1)
 
 pub one-turn-spec : {M : Type 1} → statement M
 one-turn-spec =

@@ -4,123 +4,101 @@ use mathlib.Core.Path.{_≡_, refl, sym, ap, _∙_}
 use mathlib.Core.Bool.{Bool, true, false}
 use mathlib.Core.List.{List}
 use Prim.Native.Nat.{ℕ, _+_, _-_, _≤_, _<_}
-use native.Mathlib.Nat.{zero-add}
 use native.Mathlib.Omega.{arith}
 use borrow.Author.Tests.{lt-ltb, le-ltb}
-use lib.Dec.{ltb}
-use lib.ListN.{length, take, drop, length-append, length-drop, length-take}
-use Rattle.layout.specs.Answer.{pick}
-use Rattle.layout.specs.Written.{Put}
-use Rattle.layout.proofs.laws.Numbers.{zero-one}
-use Rattle.layout.proofs.laws.Writing.{put-front}
+use lib.ListN.{length, drop, length-append}
+use Rattle.turns.specs.declared.Hold.{Hold}
+use Rattle.turns.specs.declared.Next.the-variants as next
+use Rattle.turns.specs.Held.{holds, rest, fronted, Kept}
+use Rattle.turns.specs.Turn.{Step, Turned, byStep, turnOf}
+use Rattle.turns.proofs.laws.Running.{rest-most, rest-less, read-within}
 use Rattle.listing.specs.declared.Listed.{Listed}
+use Rattle.listing.specs.declared.Tally.{Tally}
 use Rattle.listing.specs.declared.turn.Turn.{Turn}
-use Rattle.listing.specs.declared.turn.Stand.{Stand}
 use Rattle.listing.specs.declared.turn.Stage.{Stage}
 use Rattle.listing.specs.declared.turn.Stage.the-variants as stage
-use Rattle.listing.specs.declared.turn.Next.the-variants as next
 use Rattle.listing.specs.Window.{Windowed, windowOf, Lists}
-use Rattle.listing.specs.Turn.{size, unlisted, fronted, Kept, stood, closes, goesOn, asks, byListed, linesTurn, turnAt, Turned, turnOf, turned, Turns}
+use Rattle.listing.specs.Turn.{size, State, state, stood, stepped, byListed, linesOf, linesTurn, stepOf, turned, Turns}
 use Rattle.listing.proofs.Windows.{window-used}
 
--- ── a turn of lines, by what was listed ──
+-- ── a step of lines, by what was listed ──
 
-module _ {w : Windowed} {window out out′ : List ℕ} (s : Stand) {done : Listed} (l : Lists w out done out′) where
-  closes-turn : done .stopped ≡ true → Turns (byListed window s w) out (turned (done .written) next.Again (stood stage.Ending (s .from) (s .held) (s .ended) (done .tally))) window out′
-  closes-turn e =
-      let i : w .stopped ≡ true = sym (ap (λ (d : Listed). d .stopped) (l .answers)) ∙ e in
-      rw i (record { answers = rw (l .answers); leaves = l .leaves; keeps = refl })
+module _ {w : Windowed} {out out′ : List ℕ} {done : Listed} (l : Lists w out done out′) where
+  stopped-so : {b : Bool} → done .stopped ≡ b → w .stopped ≡ b
+  stopped-so e = sym (ap (λ (d : Listed). d .stopped) (l .answers)) ∙ e
 
-  goes-turn : done .stopped ≡ false → 0 < done .used → Turns (byListed window s w) out (turned (done .written) next.Again (stood stage.Lines (s .from + done .used) (s .held) (s .ended) (done .tally))) window out′
-  goes-turn e h =
-      let i : w .stopped ≡ false = sym (ap (λ (d : Listed). d .stopped) (l .answers)) ∙ e in
-      let j = lt-ltb 0 (w .used) (omega (arith, ap (λ (d : Listed). d .used) (l .answers))) in
-      rw (i, j) (record { answers = rw (l .answers); leaves = l .leaves; keeps = refl })
+  used-so : done .used ≡ w .used
+  used-so = ap (λ (d : Listed). d .used) (l .answers)
 
-  ends-turn : done .stopped ≡ false → done .used ≤ 0 → s .ended ≡ true → Turns (byListed window s w) out (turned (done .written) next.Again (stood stage.Ending (s .from) (s .held) (s .ended) (done .tally))) window out′
-  ends-turn e h g =
-      let i : w .stopped ≡ false = sym (ap (λ (d : Listed). d .stopped) (l .answers)) ∙ e in
-      let j = le-ltb 0 (w .used) (omega (arith, ap (λ (d : Listed). d .used) (l .answers))) in
-      rw (i, j, g) (record { answers = rw (l .answers); leaves = l .leaves; keeps = refl })
+  stops-so : (last : Bool) → done .stopped ≡ true → byListed last w ≡ stepped stage.Ending next.Again w
+  stops-so last e = let i = stopped-so e in rw i
 
-  asks-turn :
-      done .stopped ≡ false → done .used ≤ 0 → s .ended ≡ false → {kept : ℕ} {window′ : List ℕ} → Kept window (s .from) (s .held) kept window′ →
-      Turns (byListed window s w) out (turned (done .written) next.Read (stood stage.Lines 0 kept false (done .tally))) window′ out′
-  asks-turn e h g k =
-      let i : w .stopped ≡ false = sym (ap (λ (d : Listed). d .stopped) (l .answers)) ∙ e in
-      let j = le-ltb 0 (w .used) (omega (arith, ap (λ (d : Listed). d .used) (l .answers))) in
-      rw (i, j, g) (record { answers = rw (l .answers, k .count); leaves = l .leaves; keeps = k .leaves })
+  goes-so : (last : Bool) → done .stopped ≡ false → 0 < done .used → byListed last w ≡ stepped stage.Lines next.Again w
+  goes-so last e h = let i = stopped-so e in let j = lt-ltb 0 (w .used) (omega (arith, used-so)) in rw (i, j)
 
-module _ {window out out′ : List ℕ} (s : Stand) {done : Listed} (long : length out ≡ size)
-    (l : Lists (windowOf (s .ended) (length out) (unlisted window (s .from) (s .held)) (s .tally .place) (s .tally .records)) out done out′) where
-  pub turn-closes : done .stopped ≡ true → Turns (linesTurn window s) out (turned (done .written) next.Again (stood stage.Ending (s .from) (s .held) (s .ended) (done .tally))) window out′
-  unfolding linesTurn
-  turn-closes e = closes-turn s (rw long at l) e
+  ends-so : (last : Bool) → done .stopped ≡ false → done .used ≤ 0 → last ≡ true → byListed last w ≡ stepped stage.Ending next.Again w
+  ends-so last e h g = let i = stopped-so e in let j = le-ltb 0 (w .used) (omega (arith, used-so)) in rw (i, j, g)
 
-  pub turn-goes : done .stopped ≡ false → 0 < done .used → Turns (linesTurn window s) out (turned (done .written) next.Again (stood stage.Lines (s .from + done .used) (s .held) (s .ended) (done .tally))) window out′
-  unfolding linesTurn
-  turn-goes e h = goes-turn s (rw long at l) e h
+  asks-so : (last : Bool) → done .stopped ≡ false → done .used ≤ 0 → last ≡ false → byListed last w ≡ stepped stage.Lines next.Read w
+  asks-so last e h g = let i = stopped-so e in let j = le-ltb 0 (w .used) (omega (arith, used-so)) in rw (i, j, g)
 
-  pub turn-ends : done .stopped ≡ false → done .used ≤ 0 → s .ended ≡ true → Turns (linesTurn window s) out (turned (done .written) next.Again (stood stage.Ending (s .from) (s .held) (s .ended) (done .tally))) window out′
-  unfolding linesTurn
-  turn-ends e h g = ends-turn s (rw long at l) e h g
+  -- the turn of such a step
+  module _ (window bs : List ℕ) (h : Hold) (g : Stage) where
+    again-turn : {d : Step State (List ℕ)} → d ≡ stepped g next.Again w →
+        Turns (byStep window h bs d) out (turned (done .written) next.Again (stood (holds (h .from + done .used) (h .held) (h .ended)) (state g (done .tally)))) window out′
+    again-turn e = rw e (record { answers = rw (l .answers); leaves = l .leaves; keeps = refl })
 
-  pub turn-asks :
-      done .stopped ≡ false → done .used ≤ 0 → s .ended ≡ false → {kept : ℕ} {window′ : List ℕ} → Kept window (s .from) (s .held) kept window′ →
-      Turns (linesTurn window s) out (turned (done .written) next.Read (stood stage.Lines 0 kept false (done .tally))) window′ out′
-  unfolding linesTurn
-  turn-asks e h g k = asks-turn s (rw long at l) e h g k
+    read-turn : {d : Step State (List ℕ)} {kept : ℕ} {window′ : List ℕ} → d ≡ stepped g next.Read w → rest window (h .from + done .used) (h .held) ≡ drop (w .used) bs → Kept window (h .from + done .used) (h .held) kept window′ →
+        Turns (byStep window h bs d) out (turned (done .written) next.Read (stood (holds 0 kept false) (state g (done .tally)))) window′ out′
+    read-turn e r k =
+        let count = k .count ∙ ap length r in
+        let leaves : _ ≡ fronted (drop (w .used) bs) window = k .leaves ∙ ap (λ v. fronted v window) r in
+        rw e (record { answers = rw (l .answers, count); leaves = l .leaves; keeps = leaves })
 
--- ── a text at the front of the output ──
+module _ (window : List ℕ) {out out′ : List ℕ} (h : Hold) (t : Tally) {done : Listed} (long : length out ≡ size)
+    (l : Lists (windowOf (h .ended) (length out) (rest window (h .from) (h .held)) (t .place) (t .records)) out done out′) where
+  abbrev bs : List ℕ
+  bs = rest window (h .from) (h .held)
 
-pub put-fronted : {old bs new : List ℕ} {n : ℕ} → length bs ≤ length old → Put old 0 bs new n → (n ≡ length bs) × (new ≡ fronted bs old)
-put-fronted {old} {bs} h p = (p .place ∙ zero-add (length bs), p .bytes ∙ put-front old bs h)
+  abbrev w : Windowed
+  w = windowOf (h .ended) size bs (t .place) (t .records)
 
--- ── how much is used ──
+  lists : Lists w out done out′
+  lists = rw long at l
 
--- no more than the window has after the place
-pub used-most :
-    (window : List ℕ) {out out′ : List ℕ} (s : Stand) {done : Listed} → length out ≡ size →
-    Lists (windowOf (s .ended) (length out) (unlisted window (s .from) (s .held)) (s .tally .place) (s .tally .records)) out done out′ → done .used ≤ length window - s .from
-unfolding unlisted
-used-most window {out} s long l =
-    let u = take (s .held - s .from) (drop (s .from) window) in
-    omega (
-      arith,
-      ap (λ (d : Listed). d .used) (l .answers),
-      window-used (s .ended) (length out) u (s .tally .place) (s .tally .records),
-      length-take (s .held - s .from) (drop (s .from) window),
-      length-drop (s .from) window,
-    )
+  used-within : done .used ≤ length bs
+  used-within = omega (arith, used-so lists, window-used (h .ended) size bs (t .place) (t .records))
+
+  -- no more than the window has after the place
+  pub used-most : done .used ≤ length window - h .from
+  used-most = omega (arith, used-within, rest-most window (h .from) (h .held))
+
+  pub turn-closes : done .stopped ≡ true → Turns (linesTurn window h t) out (turned (done .written) next.Again (stood (holds (h .from + done .used) (h .held) (h .ended)) (state stage.Ending (done .tally)))) window out′
+  unfolding linesOf
+  turn-closes e = again-turn lists window bs h stage.Ending (stops-so lists (h .ended) e)
+
+  pub turn-goes : done .stopped ≡ false → 0 < done .used → Turns (linesTurn window h t) out (turned (done .written) next.Again (stood (holds (h .from + done .used) (h .held) (h .ended)) (state stage.Lines (done .tally)))) window out′
+  unfolding linesOf
+  turn-goes e u = again-turn lists window bs h stage.Lines (goes-so lists (h .ended) e u)
+
+  pub turn-ends : done .stopped ≡ false → done .used ≤ 0 → h .ended ≡ true →
+      Turns (linesTurn window h t) out (turned (done .written) next.Again (stood (holds (h .from + done .used) (h .held) (h .ended)) (state stage.Ending (done .tally)))) window out′
+  unfolding linesOf
+  turn-ends e u g = again-turn lists window bs h stage.Ending (ends-so lists (h .ended) e u g)
+
+  pub turn-asks : done .stopped ≡ false → done .used ≤ 0 → h .ended ≡ false → {kept : ℕ} {window′ : List ℕ} → Kept window (h .from + done .used) (h .held) kept window′ →
+      Turns (linesTurn window h t) out (turned (done .written) next.Read (stood (holds 0 kept false) (state stage.Lines (done .tally)))) window′ out′
+  unfolding linesOf
+  turn-asks e u g k = read-turn lists window bs h stage.Lines (asks-so lists (h .ended) e u g) (rest-less window (h .from) (h .held) (done .used) used-within ∙ ap (λ n. drop n bs) (used-so lists)) k
 
 -- ── what a program needs to know to obey ──
 
 -- a turn's text stands in the output
-pub text-within : {t : Turned} {out window′ out′ : List ℕ} {r : Turn} → Turns t out r window′ out′ → r .written ≤ length out′
+pub text-within : {t : Turned State (List ℕ)} {out window′ out′ : List ℕ} {r : Turn} → Turns t out r window′ out′ → r .written ≤ length out′
 text-within {t} {out} p = omega (arith, ap (λ (x : Turn). x .written) (p .answers), ap length (p .leaves), length-append (t .text) (drop (length (t .text)) out))
 
 -- where it says to read, the bytes that are held stand in the window
-read-held : (window : List ℕ) (s : Stand) → turnOf window s .next ≡ next.Read → turnOf window s .stand .held ≤ length (turnOf window s .window)
-unfolding turnOf linesTurn
-read-held window s e = go (s .stage) e
-  where
-    by : (w : Windowed) (a b c : Bool) →
-        pick a (closes window s w) (pick b (goesOn window s w) (pick c (closes window s w) (asks window s w))) .next ≡ next.Read →
-        pick a (closes window s w) (pick b (goesOn window s w) (pick c (closes window s w) (asks window s w))) .stand .held
-        ≤ length (pick a (closes window s w) (pick b (goesOn window s w) (pick c (closes window s w) (asks window s w))) .window)
-    by w true b c e = zero-one (cc)
-    by w false true c e = zero-one (cc)
-    by w false false true e = zero-one (cc)
-    by w false false false e = let h = unlisted window (s .from) (s .held) in omega (arith, length-append h (drop (length h) window))
-
-    go : (g : Stage) → turnAt g window s .next ≡ next.Read → turnAt g window s .stand .held ≤ length (turnAt g window s .window)
-    go stage.Heading e = zero-one (cc)
-    go stage.Lines e =
-        let w = windowOf (s .ended) size (unlisted window (s .from) (s .held)) (s .tally .place) (s .tally .records) in
-        by w (w .stopped) (ltb 0 (w .used)) (s .ended) e
-    go stage.Ending e = zero-one (cc)
-
-pub held-within : (window : List ℕ) (s : Stand) {out window′ out′ : List ℕ} {r : Turn} → Turns (turnOf window s) out r window′ out′ → r .next ≡ next.Read → r .stand .held ≤ length window′
-held-within window s p e =
-    let h = read-held window s (sym (ap (λ (x : Turn). x .next) (p .answers)) ∙ e) in
-    omega (arith, ap (λ (x : Turn). x .stand .held) (p .answers), ap length (p .keeps))
+pub held-within : (window : List ℕ) (h : Hold) (s : State) {out window′ out′ : List ℕ} {r : Turn} → Turns (turnOf stepOf window h s) out r window′ out′ → r .next ≡ next.Read → r .stand .hold .held ≤ length window′
+held-within window h s p e =
+    let k = read-within stepOf window h s (sym (ap (λ (x : Turn). x .next) (p .answers)) ∙ e) in
+    omega (arith, ap (λ (x : Turn). x .stand .hold .held) (p .answers), ap length (p .keeps))

@@ -9,13 +9,16 @@ use Rattle.layout.specs.Answer.{got, refused}
 use Rattle.layout.proofs.laws.Accepted.{accepted}
 use Rattle.layout.proofs.laws.Numbers.{bytes-of, Bytes-drop}
 use Rattle.layout.proofs.laws.Reading.{heard}
+use Rattle.layout.proofs.laws.Stored.{first}
 use Rattle.layout.proofs.laws.Words.{part-from}
-use Rattle.recording.specs.Record.{recordOf, saysRecord, recordFrom}
+use Rattle.recording.specs.Record.{recordOf, recordFrom}
+use Rattle.recording.specs.Row.{isCut, waits, saysFront, mayChange}
 use Rattle.recording.proofs.laws.Rowed.{record-stands, record-small}
 use Rattle.listing.specs.Lines.{recordLine}
-use Rattle.listing.specs.Window.{lineRoom, waits, windowOf}
-use Rattle.listing.proofs.Cut.{whole-ready}
-use Rattle.listing.proofs.Fitting.{record-short, refusal-short}
+use Rattle.listing.specs.Window.{lineRoom, windowOf}
+use Rattle.listing.proofs.Cut.{pauses-cut, pauses-none, pauses-not, whole-ready}
+use Rattle.text.proofs.laws.Refusing.{refusal-short}
+use Rattle.listing.proofs.Fitting.{record-short}
 use Rattle.listing.proofs.Windows.{Goes, begins, turn, wrong, goes-out, window-full, window-waits}
 use borrow.Author.Needs.{needs}
 use Rattle.listing.proofs.list_from.Statement.{statement}
@@ -30,7 +33,7 @@ abbrev μ-loop : tie.MeasureT-loop
 
 -- the record that was read, and the room for its line
 read : (c : tie.After-x Inv-loop μ-loop) → got (recordFrom (c .x .given .0 .0)) (c .x .given .0 .1 .0 .at) ≡ recordOf (drop (c .before .before .before .before .before .loop .used) (now (c .before .before .before .before .before .before .before .before .before .args .s)))
-read c = rw (part-from (now (c .before .before .before .before .before .before .before .before .before .args .s)) (c .before .before .before .before .before .loop .used)) at (heard saysRecord (c .x .given .1) (c .before .before .read-record .ensures))
+read c = rw (part-from (now (c .before .before .before .before .before .before .before .before .before .args .s)) (c .before .before .before .before .before .loop .used)) at (heard saysFront (c .x .given .1) (c .before .before .read-front .ensures .answer))
 
 short-line : (c : tie.After-x Inv-loop μ-loop) → length (recordLine (c .before .before .before .before .before .loop .place) (recordFrom (c .x .given .0 .0))) ≤ lineRoom
 short-line c =
@@ -77,38 +80,46 @@ loop-again c =
     (rw (c .before .wrapping-add-u64 .ensures, c .wrapping-add-u642 .ensures) g, omega (arith, r .within, length-drop (l .loop .used) s), c .before .wrapping-add-u64 .ok)
 
 returns : tie.Need-returns Inv-loop μ-loop
+unfolding waits isCut
 returns c =
-    let l = c .before .before .before .before .before .before .before .before .before in
+    let l = c .before .before .before .before .before .before in
     let a = l .before .before .before .before .args in
-    let w : waits (a .last) (drop (l .loop .used) (now (a .s))) ≡ true = rw (part-from (now (a .s)) (l .loop .used)) at (sym (c .before .before .waits .ensures) ∙ c .before .if1 .taken) in
+    let rest = drop (l .loop .used) (now (a .s)) in
+    let w : waits (a .last) rest ≡ true = rw (part-from (now (a .s)) (l .loop .used)) at (sym (heard mayChange (c .before .enum-told .given .1) (c .before .before .before .read-front .ensures .waiting))) in
     rw (c .answer .ensures)
-    (goes-out (l .loop .place) (l .loop .records) (window-waits (a .last) (length (l .loop .out) - l .loop .written) (drop (l .loop .used) (now (a .s))) (l .loop .place) (l .loop .records) w) (l .loop .inv .0))
-
-put-refusal-requires : tie.Need-put-refusal-requires Inv-loop μ-loop
-put-refusal-requires c κs =
-    let l = c .before .before .before .before .before .before .before .before .before in
-    let f = c .before .before .before .known-told2 .given .0 .1 .1 in
-    let h = refusal-short (l .loop .place) (c .before .before .before .before .f .given .0 .0) (l .loop .inv .2) (f .0 .1) (f .1 .1 .0 .1) in
-    omega (arith, c .before .before .before .before .before .before .before .before .loop-test .taken)
+    (goes-out (l .loop .place) (l .loop .records) (window-waits (a .last) (length (l .loop .out) - l .loop .written) rest (l .loop .place) (l .loop .records) (pauses-cut (a .last) rest w)) (l .loop .inv .0))
 
 returns-2 : tie.Need-returns-2 Inv-loop μ-loop
 returns-2 c =
-    let k = c .before .before .before .before .before .before .before .before in
+    let l = c .before .before .before .before .before .before .before .before in
+    let a = l .before .before .before .before .args in
+    let rest = drop (l .loop .used) (now (a .s)) in
+    let none : length rest ≡ 0 = rw (part-from (now (a .s)) (l .loop .used)) at (c .before .if1 .taken) in
+    rw (c .answer2 .ensures)
+    (goes-out (l .loop .place) (l .loop .records) (window-waits (a .last) (length (l .loop .out) - l .loop .written) rest (l .loop .place) (l .loop .records) (pauses-none (a .last) rest (omega arith))) (l .loop .inv .0))
+
+returns-3 : tie.Need-returns-3 Inv-loop μ-loop
+unfolding waits isCut
+returns-3 c =
+    let k = c .before .before .before .before .before .before .before in
     let l = k .before .before .before .before .before in
     let a = l .before .before .before .before .args in
     let s = now (a .s) in
     let rest = drop (l .loop .used) s in
-    let ready : waits (a .last) rest ≡ false = rw (part-from s (l .loop .used)) at (sym (c .before .before .before .before .before .before .waits .ensures) ∙ c .before .before .before .before .before .if1 .left) in
-    let e : refused (k .f .given .0 .0) ≡ recordOf rest = rw (part-from s (l .loop .used)) at (heard saysRecord (k .f .given .1) (k .before .before .read-record .ensures)) in
-    let f = c .before .before .before .before .before .before .before .known-told2 .given .0 .1 .1 in
+    let p = k .before .before .read-front .ensures in
+    let w : waits (a .last) rest ≡ false = rw (part-from s (l .loop .used)) at (sym (heard mayChange (k .f .given .1) (p .waiting))) in
+    let full = rw (part-from s (l .loop .used)) at (c .before .before .before .before .before .if1 .left) in
+    let some : 0 < length rest = omega arith in
+    let e : refused (k .f .given .0 .0) ≡ recordOf rest = rw (part-from s (l .loop .used)) at (heard saysFront (k .f .given .1) (p .answer)) in
+    let f = c .before .before .before .before .before .before .known-told2 .given .0 .1 .1 in
     let h = refusal-short (l .loop .place) (k .f .given .0 .0) (l .loop .inv .2) (f .0 .1) (f .1 .1 .0 .1) in
-    rw (c .answer2 .ensures) (wrong (a .last) s (l .loop .place) (l .loop .records) (l .loop .inv .0) (k .before .before .before .before .loop-test .taken) ready e h (c .before .before .before .put-refusal .ensures))
+    rw (c .answer3 .ensures) (wrong (a .last) s (l .loop .place) (l .loop .records) (l .loop .inv .0) (k .before .before .before .before .loop-test .taken) (pauses-not (a .last) rest some w) e h (first (omega (arith, k .before .before .before .before .loop-test .taken)) (c .before .before .before .put-refusal .ensures)))
 
-returns-3 : tie.Need-returns-3 Inv-loop μ-loop
-returns-3 c =
+returns-4 : tie.Need-returns-4 Inv-loop μ-loop
+returns-4 c =
     let l = c .before .before in
     let a = l .before .before .before .before .args in
-    rw (c .answer3 .ensures)
+    rw (c .answer4 .ensures)
     (goes-out (l .loop .place) (l .loop .records) (window-full (a .last) (length (l .loop .out) - l .loop .written) (drop (l .loop .used) (now (a .s))) (l .loop .place) (l .loop .records) (c .before .loop-test .left)) (l .loop .inv .0))
 
 pub list-from-spec : {M : Type 1} → statement M
@@ -132,13 +143,16 @@ list-from-spec =
     loop-again
     (λ c. search needs)
     (λ c κs. search needs)
-    (λ c κs. search needs)
     (λ c. search needs)
     returns
-    put-refusal-requires
+    (λ c. search needs)
     (λ c κs. search needs)
     (λ c. search needs)
     returns-2
     (λ c κs. search needs)
+    (λ c κs. search needs)
     (λ c. search needs)
-    returns-3)
+    returns-3
+    (λ c κs. search needs)
+    (λ c. search needs)
+    returns-4)

@@ -4,7 +4,7 @@ use native.Mathlib.Omega.{arith}
 use lib.Seq.{length-take-le}
 use Rattle.layout.proofs.laws.Stored.{first, put-whole}
 use Rattle.layout.proofs.laws.Writing.{no-room, done, long}
-use Rattle.listing.proofs.Numerals.{shown}
+use Rattle.text.proofs.laws.Numerals.{shown}
 use borrow.Author.Needs.{needs}
 use Rattle.listing.proofs.write_ending.Statement.{statement}
 use Rattle.listing.proofs.write_ending.Tie as tie

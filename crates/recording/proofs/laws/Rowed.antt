@@ -198,6 +198,15 @@ cut-short s cut = go (head-judged s) cut
     go (fails a (fails b (fails c (fails d (holds h))))) e = omega arith
     go (fails a (fails b (fails c (fails d (fails f otherwise))))) e = zero-one (cc)
 
+-- no bytes are a record that is cut
+pub uncut-some : (s : List ℕ) → isCut s ≡ false → 0 < length s
+unfolding isCut
+uncut-some s uncut = go (head-judged s) uncut
+  where
+    go : {x : Answer Head} → HeadSays s x → isEnd x ≡ false → 0 < length s
+    go (holds h) e = absurd (is-end 0 e)
+    go (fails a r) e = omega arith
+
 pub whole-uncut : (s : List ℕ) {x : Record} {n : ℕ} → got x n ≡ recordOf s → isCut s ≡ false
 unfolding recordAt isCut after
 whole-uncut s {x} {n} e = go (headOf s) e

@@ -1,4 +1,5 @@
 -- `stream::write_all`: each write takes some of what is left. Assumes nothing.
+use mathlib.Core.Path.{refl}
 use Prim.Native.Nat.{_-_, _≤_}
 use native.Mathlib.Omega.{arith}
 use denote.Ref.{now}
@@ -22,6 +23,10 @@ most c =
     let l = length-drop done bytes in
     omega (arith, c .before .write-some .ensures, length-take-le (length bytes - done) (drop done bytes) (omega arith))
 
+-- where it gave up, there were bytes to write
+returns : tie.Need-returns Inv-loop μ-loop
+returns c none = let z : ⊥ = omega (arith, none, c .before .before .before .loop-test .taken) in absurd z
+
 pub write-all-spec : {M : Type 1} → statement M
 write-all-spec =
     tie.close
@@ -33,8 +38,8 @@ write-all-spec =
     (λ c. search needs)
     (λ c. search needs)
     (λ c κs. search needs)
-    (λ c. search needs)
+    returns
     (λ c. let h = most c in omega arith)
     (λ c. let h = most c in omega (arith, c .if1 .left))
     (λ c. let h = most c in omega arith)
-    (λ c. search needs))
+    (λ c _. refl))

@@ -6,14 +6,16 @@ use mathlib.Core.List.{List, [], _∷_}
 use Prim.Native.Nat.{ℕ, zero, suc, _≤_, _<_}
 use native.Mathlib.Nat.{not-suc-le-zero}
 use native.Mathlib.Omega.{arith}
-use borrow.Author.Tests.{eqb-true, ltb-true, ltb-false}
+use borrow.Author.Tests.{eqb-true, ltb-true, ltb-false, leb-true}
 use lib.ListN.{length}
-use lib.Dec.{eqb, ltb}
+use lib.Dec.{eqb, ltb, leb}
 use Rattle.layout.specs.Answer.{pick}
 use Rattle.layout.proofs.laws.Numbers.{zero-one}
 use Rattle.tree.specs.Listed.{times, Every, none, more, Sorted, done, next}
-use Rattle.tree.specs.Way.{way, depth, Left, here, there, stops, Before, higher, beside, within, Walk}
-use Rattle.tree.proofs.Counts.{equal, miss}
+use Rattle.tree.specs.Way.{way, depth, Left, here, there, stops, Before, higher, beside, Walk}
+use Rattle.tree.specs.Table.{live}
+use Rattle.tree.proofs.laws.Counts.{equal, miss}
+use Rattle.tree.proofs.laws.Sound.{marked-there}
 
 false-no : {X : Type 0} → false ≡ true → X
 false-no e = zero-one (cc)
@@ -62,16 +64,16 @@ sorted-tested ps (x ∷ l) e =
     let h = and-eq-true-iff (everyTest (beforeTest ps x) l) (sortedTest ps l) .0 e in
     next (every-tested (beforeTest ps x) (before-tested ps x) l (h .0)) (sorted-tested ps l (h .1))
 
--- each number below n once
-abbrev pub onceTest : ℕ → List ℕ → Bool
-onceTest zero l = true
-onceTest (suc n) l = eqb (times n l) 1 && onceTest n l
+-- each live number below n once, and no other below n
+abbrev pub onceTest : (ℕ → Bool) → ℕ → List ℕ → Bool
+onceTest has zero l = true
+onceTest has (suc n) l = eqb (times n l) (pick (has n) 1 0) && onceTest has n l
 
-once-low : (n : ℕ) (l : List ℕ) → onceTest n l ≡ true → (k : ℕ) → k < n → times k l ≡ 1
-once-low zero l e k h = absurd (not-suc-le-zero h)
-once-low (suc n) l e k h =
-    let g = and-eq-true-iff (eqb (times n l) 1) (onceTest n l) .0 e in
-    equal k n (λ q. rw q (eqb-true (times n l) 1 (g .0))) (λ q. once-low n l (g .1) k (omega arith))
+once-low : (has : ℕ → Bool) (n : ℕ) (l : List ℕ) → onceTest has n l ≡ true → (k : ℕ) → k < n → times k l ≡ pick (has k) 1 0
+once-low has zero l e k h = absurd (not-suc-le-zero h)
+once-low has (suc n) l e k h =
+    let g = and-eq-true-iff (eqb (times n l) (pick (has n) 1 0)) (onceTest has n l) .0 e in
+    equal k n (λ q. rw q (eqb-true (times n l) (pick (has n) 1 0) (g .0))) (λ q. once-low has n l (g .1) k (omega arith))
 
 once-high : (n : ℕ) (l : List ℕ) → everyTest (λ x. ltb x n) l ≡ true → (k : ℕ) → n ≤ k → times k l ≡ 0
 once-high n [] e k h = refl
@@ -80,15 +82,21 @@ once-high n (x ∷ l) e k h =
     let j = ltb-true x n (g .0) in
     miss k x l (λ q. omega arith) ∙ once-high n l (g .1) k h
 
-abbrev pub walkTest : List ℕ → List ℕ → Bool
-walkTest ps l = onceTest (length ps) l && (everyTest (λ x. ltb x (length ps)) l && sortedTest ps l)
+-- of the places that are live by these marks
+abbrev pub walkTest : List ℕ → List ℕ → List ℕ → Bool
+walkTest ps ms l = leb (length ms) (length ps) && (onceTest (live ms) (length ps) l && (everyTest (λ x. ltb x (length ps)) l && sortedTest ps l))
 
-pub tested : (ps l : List ℕ) → walkTest ps l ≡ true → Walk ps (within ps) l
-tested ps l e =
-    let g = and-eq-true-iff (onceTest (length ps) l) _ .0 e in
+pub tested : (ps ms l : List ℕ) → walkTest ps ms l ≡ true → Walk ps (live ms) l
+tested ps ms l e =
+    let f = and-eq-true-iff (leb (length ms) (length ps)) _ .0 e in
+    let g = and-eq-true-iff (onceTest (live ms) (length ps) l) _ .0 (f .1) in
     let h = and-eq-true-iff (everyTest (λ x. ltb x (length ps)) l) (sortedTest ps l) .0 (g .1) in
-    record { once = λ k. go k (ltb k (length ps)) refl (g .0) (h .0); order = sorted-tested ps l (h .1) }
+    record { once = λ k. go k (ltb k (length ps)) refl (leb-true (length ms) (length ps) (f .0)) (g .0) (h .0); order = sorted-tested ps l (h .1) }
   where
-    go : (k : ℕ) (b : Bool) → ltb k (length ps) ≡ b → onceTest (length ps) l ≡ true → everyTest (λ x. ltb x (length ps)) l ≡ true → times k l ≡ pick b 1 0
-    go k true q o v = once-low (length ps) l o k (ltb-true k (length ps) q)
-    go k false q o v = once-high (length ps) l v k (ltb-false k (length ps) q)
+    dead : (k : ℕ) (b : Bool) → live ms k ≡ b → length ms ≤ k → 0 ≡ pick {A = ℕ} b 1 0
+    dead k true e h = absurd (let t = marked-there ms k e in omega arith)
+    dead k false e h = refl
+
+    go : (k : ℕ) (b : Bool) → ltb k (length ps) ≡ b → length ms ≤ length ps → onceTest (live ms) (length ps) l ≡ true → everyTest (λ x. ltb x (length ps)) l ≡ true → times k l ≡ pick (live ms k) 1 0
+    go k true q n o v = once-low (live ms) (length ps) l o k (ltb-true k (length ps) q)
+    go k false q n o v = once-high (length ps) l v k (ltb-false k (length ps) q) ∙ dead k (live ms k) refl (let r = ltb-false k (length ps) q in omega arith)

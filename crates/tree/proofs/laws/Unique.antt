@@ -3,6 +3,7 @@
 -- one-written.)
 -- Assumes nothing.
 use mathlib.Core.Path.{_≡_, refl, sym, ap, _∙_}
+use mathlib.Core.Bool.{Bool}
 use mathlib.Core.List.{List, _++_}
 use Prim.Native.Nat.{ℕ}
 use lib.ListN.{length, drop}
@@ -10,8 +11,8 @@ use Rattle.layout.specs.Answer.{Told, Answer, got, refused}
 use Rattle.layout.specs.Written.{Said, says, no, saysWritten, leftOf}
 use Rattle.layout.proofs.laws.Determined.{Tells, one-written}
 use Rattle.layout.proofs.laws.Numbers.{zero-one}
-use Rattle.tree.specs.Table.{Table, tableAt}
-use Rattle.tree.specs.Way.{within, Walk}
+use Rattle.tree.specs.Table.{Table, rows, flags, live, tableAt}
+use Rattle.tree.specs.Way.{Walk}
 use Rattle.tree.specs.Path.{saidIf, pathsSaid, endsSaid, Walked, AllPaths}
 use Rattle.tree.specs.Says.{saysChecked, Walks, OrderSays, order, no-order}
 use Rattle.tree.specs.declared.Checked.the-variants as checked
@@ -25,9 +26,9 @@ tells-checked (checked.Whole n) (checked.Refused t) e = zero-one (cc)
 tells-checked (checked.Refused t) (checked.Whole n) e = zero-one (cc)
 tells-checked (checked.Refused t) (checked.Refused u) e = cc
 
-module _ {ps old : List ℕ} {r s : ℕ} {l m : List ℕ} (p : Walks ps old r l) (q : Walks ps old s m) where
+module _ {ps old : List ℕ} {has : ℕ → Bool} {r s : ℕ} {l m : List ℕ} (p : Walks ps has old r l) (q : Walks ps has old s m) where
   pub lists : p .list ≡ q .list
-  lists = one-walk ps (within ps) (p .list) (q .list) (p .walk) (q .walk)
+  lists = one-walk ps has (p .list) (q .list) (p .walk) (q .walk)
 
   pub counts : r ≡ s
   counts = p .count ∙ ap length lists ∙ sym (q .count)
@@ -54,13 +55,13 @@ one-order t r s (no-order {why = x} a e g h) (no-order {why = y} b f i j) =
 
 -- what is said of the walk and of all paths goes by the table alone
 module _ (t : Table) (l m : List ℕ) (room : ℕ)
-    (p : (n : ℕ) → tableAt t ≡ got tt n → Walk (t .parents) (within (t .parents)) l)
-    (q : (n : ℕ) → tableAt t ≡ got tt n → Walk (t .parents) (within (t .parents)) m) where
+    (p : (n : ℕ) → tableAt t ≡ got tt n → Walk (rows t) (live (flags t)) l)
+    (q : (n : ℕ) → tableAt t ≡ got tt n → Walk (rows t) (live (flags t)) m) where
   alike : (said : List ℕ → Said) → ((why : Told) → tableAt t ≡ refused why → (k : List ℕ) → said k ≡ no why) → said l ≡ said m
   alike said refuses = go (tableAt t) refl
     where
       go : (a : Answer (Unit {0})) → tableAt t ≡ a → said l ≡ said m
-      go (got u n) e = ap said (one-walk (t .parents) (within (t .parents)) l m (p n e) (q n e))
+      go (got u n) e = ap said (one-walk (rows t) (live (flags t)) l m (p n e) (q n e))
       go (refused why) e = refuses why e l ∙ sym (refuses why e m)
 
   same-paths : pathsSaid t l room ≡ pathsSaid t m room

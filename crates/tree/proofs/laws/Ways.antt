@@ -14,7 +14,7 @@ use Rattle.layout.specs.Answer.{pick}
 use Rattle.tree.specs.Facts.{Ruled}
 use Rattle.tree.specs.Table.{parent}
 use Rattle.tree.specs.Way.{climbed, fromRoot, way, depth, Left, here, there, stops, Before, higher, beside, Walk}
-use Rattle.tree.proofs.Counts.{equal}
+use Rattle.tree.proofs.laws.Counts.{equal}
 use Rattle.tree.proofs.Alone.{unique}
 
 -- ── left to right ──
@@ -76,7 +76,7 @@ module _ {A : Type 0} (root : A) (step : A → ℕ → A) (ps : List ℕ) where
         let less : parent ps k < k = rule .smaller k h l in
         rw (ne-eqb k 0 (λ z. omega arith), fuel k (suc (parent ps k)) (parent ps k) less (omega arith) (omega arith))
 
-way-root : (ps : List ℕ) → way ps 0 ≡ 0 ∷ []
+pub way-root : (ps : List ℕ) → way ps 0 ≡ 0 ∷ []
 unfolding way
 way-root ps = at-root _ _ ps 0 refl
 
@@ -91,7 +91,7 @@ pub record Kid (ps : List ℕ) (p x : ℕ) : Type 0 where
   pub up : parent ps x ≡ p
 
 module _ (ps : List ℕ) (rule : Ruled ps) where
-  way-step : (k : ℕ) → 0 < k → k < length ps → way ps k ≡ way ps (parent ps k) ++ k ∷ []
+  pub way-step : (k : ℕ) → 0 < k → k < length ps → way ps k ≡ way ps (parent ps k) ++ k ∷ []
   unfolding way
   way-step k h l = by-parent _ _ ps rule k h l
 

@@ -158,7 +158,7 @@ module _ (us : List ℕ) where
 -- ── arrays ──
 
 -- items that stand in bytes are written as they stand
-items-stand : (w n : ℕ) (bs : List ℕ) → Bytes bs → length bs ≡ n * w → (array w) .write (cells w n bs) ≡ bytes 4 n ++ bs
+pub items-stand : (w n : ℕ) (bs : List ℕ) → Bytes bs → length bs ≡ n * w → (array w) .write (cells w n bs) ≡ bytes 4 n ++ bs
 items-stand w n bs h e =
     let g = cells-all w n bs h e in
     let f : bs ≡ (celled w n) .write (cells w n bs) = (cells-format w n) .one (single-repeat (Number w) n (single-number w) bs (cells w n bs) g) in

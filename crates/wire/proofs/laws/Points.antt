@@ -25,12 +25,12 @@ abbrev unit : List ℕ → ℕ → ℕ
 unit s at = number (take 2 (drop at s))
 
 -- a unit by itself, and a pair, whatever follows
-points-alone : (u : ℕ) (us : List ℕ) → (u / 1024 ≡ 54 → ⊥) → points (u ∷ us) ≡ u ∷ points us
+pub points-alone : (u : ℕ) (us : List ℕ) → (u / 1024 ≡ 54 → ⊥) → points (u ∷ us) ≡ u ∷ points us
 unfolding points
 points-alone u [] e = refl
 points-alone u (v ∷ us) e = rw (ne-eqb (u / 1024) 54 e)
 
-points-pair : (u v : ℕ) (us : List ℕ) → u / 1024 ≡ 54 → points (u ∷ v ∷ us) ≡ pairPoint u v ∷ points us
+pub points-pair : (u v : ℕ) (us : List ℕ) → u / 1024 ≡ 54 → points (u ∷ v ∷ us) ≡ pairPoint u v ∷ points us
 unfolding points
 points-pair u v us e = rw (eq-eqb (u / 1024) 54 e)
 

@@ -1,8 +1,7 @@
 -- Which refusals of the byte layer have a place: 1 and 2 and no other, whatever the reader; and from a place inside the bytes it is inside them.
--- Each reader goes from field to field, so a line of layout's laws a field is the whole argument. And of a value and of a description no other than 1 and 2 is given.
+-- Each reader goes from field to field, so a line of layout's laws a field is the whole argument.
 -- Assumes nothing.
 use mathlib.Core.Bool.{Bool, true, false}
-use mathlib.Core.Logic.{_⊎_}
 use mathlib.Core.Path.{_≡_, subst}
 use mathlib.Core.List.{List, [], _∷_}
 use Prim.Native.Nat.{ℕ, _+_, _-_, _*_}
@@ -10,11 +9,10 @@ use native.Mathlib.Omega.{arith}
 use borrow.Author.Tests.{leb-true}
 use lib.Dec.{leb, eqb, ltb}
 use lib.ListN.{length, drop}
-use Rattle.layout.specs.Answer.{Told, Answer, refused, means}
+use Rattle.layout.specs.Answer.{Told, Answer, means}
 use Rattle.layout.specs.Bytes.{number, cells}
-use Rattle.layout.specs.Refusals.{END, TEXT, TRAIL, KIND, LENGTH, SIZE, PLACE}
+use Rattle.layout.specs.Refusals.{TRAIL, KIND, LENGTH, SIZE, PLACE}
 use Rattle.layout.specs.Told.{PlacedExactly, Inside}
-use Rattle.layout.proofs.laws.Decided.{end-or-text}
 use Rattle.layout.proofs.laws.Told.{Telling, read, spoilt, plainly, telling-same, Closed, Everywhere, everywhere, telling-pick, telling-after, telling-means, telling-span, telling-field, telling-repeated, telling-exactly, told-from-0}
 use Rattle.wire.specs.Layout.{paired, width, Shape, one, many, string, undef, shape, device, object, storage}
 use Rattle.wire.specs.Codecs.{value}
@@ -37,8 +35,6 @@ use Rattle.wire.specs.declared.property.ReadProperty.{ReadProperty}
 use Rattle.wire.specs.declared.list.ReadNth.{ReadNth}
 use Rattle.wire.specs.declared.container.ReadHeader.{ReadHeader}
 use Rattle.wire.specs.declared.container.ReadContainer.{ReadContainer}
-use Rattle.wire.proofs.Described.{properties}
-use Rattle.wire.proofs.Refusals.{value-faults, property-faults}
 use Rattle.wire.proofs.laws.Located as Located
 
 module _ {P : ℕ → Type 0} (s : List ℕ) (closed : Closed P s) where
@@ -227,11 +223,3 @@ module _ (s : List ℕ) where
 
   pub property-inside : (there : Bool) (r : ReadProperty) → saysProperty r ≡ propertyAt there s 0 → Inside (length s) (saysProperty r)
   property-inside there r promised = (told-from-0 s promised λ P c h. property-telling s c there 0 h) .1
-
--- ── 1 or 2 ──
-
-pub value-refusal : (t : ℕ) (s : List ℕ) (at : ℕ) (u : Told) → valueAt t s at ≡ refused u → (u .no ≡ END) ⊎ (u .no ≡ TEXT)
-value-refusal t = end-or-text (value-faults t) (Located.values t)
-
-pub property-refusal : (there : Bool) (s : List ℕ) (at : ℕ) (u : Told) → propertyAt there s at ≡ refused u → (u .no ≡ END) ⊎ (u .no ≡ TEXT)
-property-refusal there = end-or-text (property-faults there) (properties there)

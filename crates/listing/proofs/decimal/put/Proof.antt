@@ -1,6 +1,6 @@
 -- `listing::decimal::put`: one digit, two, or by its size. Assumes nothing.
 use native.Mathlib.Omega.{arith}
-use Rattle.listing.proofs.Numerals.{decimal-is, decimal-length, one-digit, two-digits}
+use Rattle.text.proofs.laws.Numerals.{decimal-is, decimal-length, one-digit, two-digits}
 use borrow.Author.Needs.{needs}
 use Rattle.listing.proofs.decimal.put.Statement.{statement}
 use Rattle.listing.proofs.decimal.put.Tie as tie

@@ -2,7 +2,7 @@
 use native.Mathlib.Omega.{arith}
 use Rattle.layout.proofs.laws.Stored.{room-left}
 use Rattle.layout.proofs.laws.Writing.{then}
-use Rattle.listing.proofs.Numerals.{decimal-is, decimal-length, one-digit, two-digits, three-digits, four-digits}
+use Rattle.text.proofs.laws.Numerals.{decimal-is, decimal-length, one-digit, two-digits, three-digits, four-digits}
 use Rattle.listing.proofs.Spelling.{in-parts}
 use borrow.Author.Needs.{needs}
 use Rattle.listing.proofs.decimal.put_few.Statement.{statement}

@@ -3,7 +3,8 @@ use native.Mathlib.Omega.{arith}
 use Rattle.io.specs.Digits.{digits}
 use Rattle.names.specs.Names.{spelled}
 use Rattle.listing.specs.Lines.{hexCode}
-use Rattle.listing.proofs.Numerals.{hex-is, shown}
+use Rattle.text.proofs.laws.Numerals.{shown}
+use Rattle.listing.proofs.Fitting.{hex-is}
 use Rattle.listing.proofs.Pieces.{row2}
 use borrow.Author.Needs.{needs}
 use Rattle.listing.proofs.line.put_hex.Statement.{statement}

@@ -1,10 +1,7 @@
--- `listing::turn::join`: the sum wraps as the definition says. Assumes nothing.
+-- `listing::turn::join`: what is held is joined. Assumes nothing.
 use borrow.Author.Needs.{needs}
 use Rattle.listing.proofs.turn.join.Statement.{statement}
 use Rattle.listing.proofs.turn.join.Tie as tie
 
-returns : tie.Need-returns
-returns c = rw (c .wrapping-add-usize .ensures)
-
 pub join-spec : {M : Type 1} → statement M
-join-spec = tie.close (tie.spec (λ c κs. search needs) returns)
+join-spec = tie.close (tie.spec (λ c κs. search needs) (λ c. rw (c .before .join .ensures)))

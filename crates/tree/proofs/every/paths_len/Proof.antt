@@ -6,7 +6,7 @@ use borrow.Author.Needs.{needs}
 use lib.ListN.{length, drop, length-append}
 use Rattle.layout.proofs.laws.Numbers.{bytes-of}
 use Rattle.tree.specs.Path.{joined}
-use Rattle.tree.proofs.Counts.{every-get}
+use Rattle.tree.proofs.laws.Counts.{every-get}
 use Rattle.tree.proofs.Trails.{joined-step, joined-none, joined-short}
 use Rattle.tree.proofs.every.paths_len.Statement.{statement}
 use Rattle.tree.proofs.every.paths_len.Tie as tie

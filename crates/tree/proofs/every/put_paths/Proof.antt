@@ -7,7 +7,7 @@ use lib.ListN.{length, drop, length-append}
 use Rattle.layout.proofs.laws.Numbers.{bytes-of}
 use Rattle.layout.proofs.laws.Writing.{Owes, start, byte, part, end}
 use Rattle.tree.specs.Path.{joined, endsFrom}
-use Rattle.tree.proofs.Counts.{every-get}
+use Rattle.tree.proofs.laws.Counts.{every-get}
 use Rattle.tree.proofs.Trails.{joined-step, joined-none, ends-step, ends-none, joined-short}
 use Rattle.tree.proofs.every.put_paths.Statement.{statement}
 use Rattle.tree.proofs.every.put_paths.Tie as tie

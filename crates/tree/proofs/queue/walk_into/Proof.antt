@@ -1,23 +1,32 @@
 -- `tree::queue::walk_into`: the table is accepted, and its walk, made apart, is given. Assumes nothing.
-use mathlib.Core.Path.{sym}
+use mathlib.Core.Path.{_≡_, sym}
 use borrow.Author.Needs.{needs}
+use Rattle.layout.specs.Answer.{got}
 use Rattle.layout.proofs.laws.Reading.{heard}
+use Rattle.tree.specs.Table.{Table, table, tableAt}
 use Rattle.tree.specs.Says.{saysChecked}
-use Rattle.tree.proofs.Tables.{accepted}
+use Rattle.tree.proofs.laws.Sound.{Sound, accepted, rows-long, marks-long, even}
 use Rattle.tree.proofs.Trails.{front, walk-refused, walk-given}
 use Rattle.tree.proofs.queue.walk_into.Statement.{statement}
 use Rattle.tree.proofs.queue.walk_into.Tie as tie
 
-walk-ruled-requires : tie.Need-walk-ruled-requires
-walk-ruled-requires c κs =
-    let rule = accepted _ (heard saysChecked (c .before .enum-told .given .1) (c .before .before .before .check-table .ensures)) .ruling in
-    (rule, rule .few)
+-- the table that was accepted
+abbrev asked : tie.After-enum-told → Table
+asked e =
+    let a = e .before .before .before .before .before .before .before .before .before .args in
+    table (a .handles .now) (a .parents .now) (a .ends .now) (a .marks .now) (a .count) (a .names .now)
+
+heard-of : (e : tie.After-enum-told) → got tt (e .enum-told .given .0 .0) ≡ tableAt (asked e)
+heard-of e = heard saysChecked (e .enum-told .given .1) (e .before .before .check-table .ensures)
+
+whole : (e : tie.After-enum-told) → Sound (asked e)
+whole e = accepted (asked e) (heard-of e)
 
 returns : tie.Need-returns
 returns c =
     let w = c .before .before .before .before .before .before in
-    let e = w .before .before in
-    walk-given _ _ (heard saysChecked (e .enum-told .given .1) (e .before .before .check-table .ensures)) (front (w .walk-ruled .ensures) .0) (c .before .before .give .ensures)
+    let e = w .before .before .before .before in
+    walk-given (asked e) _ (heard-of e) (front (w .walk-ruled .ensures) .0) (c .before .before .give .ensures)
 
 returns-2 : tie.Need-returns-2
 returns-2 c = walk-refused _ _ (heard saysChecked (c .before .f .given .1) (c .before .before .before .check-table .ensures))
@@ -28,8 +37,10 @@ walk-into-spec =
     (tie.spec
     (λ c κs. search needs)
     (λ c. search needs)
+    (λ c. rows-long (whole (c .before)))
+    (λ c. marks-long (whole (c .before .before)))
     (λ c. search needs)
-    walk-ruled-requires
+    (λ c κs. let s = whole (c .before .before .before) in (s .kept .ruling, (even s, (s .marks, s .kept .ruling .few))))
     (λ c. front (c .before .walk-ruled .ensures) .2)
     (λ c. sym (front (c .before .before .walk-ruled .ensures) .1))
     (λ c κs. search needs)

@@ -1,0 +1,12 @@
+pub mod laws
+pub mod Endings
+pub mod Movings
+pub mod Ranked
+pub mod Fits
+pub mod Gatherings
+pub mod Additions
+pub mod Replies
+pub mod Collecting
+pub mod Deleting
+pub mod Told
+pub mod Adding

@@ -1,0 +1,75 @@
+-- What the table's rule gives, as facts of the whole lists: the private functions ask for these. No public promise names them.
+-- Assumes nothing.
+use mathlib.Core.Path.{_≡_}
+use mathlib.Core.List.{List}
+use Prim.Native.Nat.{ℕ, _+_, _≤_, _<_}
+use lib.ListN.{length, getD}
+use Rattle.tree.specs.Table.{Table, flags, startOf, endOf}
+use Rattle.shots.specs.Added.{lastEnd, base, newPlaces}
+use Rattle.shots.specs.Collected.{alive, places, collected, ahead}
+
+-- the first n ends rise
+pub record Rises (n : ℕ) (es : List ℕ) : Type 0 where
+  pub rises : (k : ℕ) → k < n → startOf es k ≤ endOf es k
+
+-- and none is past the size
+pub record Spaced (n : ℕ) (es : List ℕ) (size : ℕ) : Type 0 where
+  pub risen : Rises n es
+  pub inside : (k : ℕ) → k < n → endOf es k ≤ size
+
+-- the first n parent entries are below the size
+pub record Hung (n : ℕ) (ps : List ℕ) (size : ℕ) : Type 0 where
+  pub hung : (k : ℕ) → k < n → getD ps k 0 < size
+
+pub record Fit (t : Table) : Type 0 where
+  pub few : t .count ≤ 1024
+  pub handled : length (t .handles) ≡ 1024
+  pub parented : length (t .parents) ≡ 1024
+  pub ended : length (t .ends) ≡ 1024
+  pub flagged : length (t .marks) ≡ 1024
+  pub hanging : Hung (t .count) (t .parents) (t .count)
+  pub spaced : Spaced (t .count) (t .ends) (length (t .names))
+
+-- these stand at the front of the list now, as many as there are, and there was room for them
+pub record Fronted (front old new : List ℕ) (n : ℕ) : Type 0 where
+  pub list : new ≡ ahead front old
+  pub size : n ≡ length front
+  pub room : n ≤ length old
+
+-- a table collected, with its new places
+pub record Gathered (t : Table) (old : List ℕ) (n : ℕ) (hs ps es ms ns new : List ℕ) : Type 0 where
+  pub count : n ≡ alive (flags t)
+  pub handles : hs ≡ collected t .handles
+  pub parents : ps ≡ collected t .parents
+  pub ends : es ≡ collected t .ends
+  pub marks : ms ≡ collected t .marks
+  pub names : ns ≡ collected t .names
+  pub news : new ≡ ahead (places t) old
+
+-- a table that has room for one object more, with a name of this size
+pub record Room (t : Table) (size : ℕ) : Type 0 where
+  pub free : t .count < 1024
+  pub handled : length (t .handles) ≡ 1024
+  pub parented : length (t .parents) ≡ 1024
+  pub ended : length (t .ends) ≡ 1024
+  pub flagged : length (t .marks) ≡ 1024
+  pub holds : lastEnd t + size ≤ length (t .names)
+  pub short : lastEnd t + size < 4294967296
+
+-- the table that the object is put into
+pub record Based (t : Table) (size : ℕ) (old : List ℕ) (n : ℕ) (hs ps es ms ns new : List ℕ) : Type 0 where
+  pub count : n ≡ base t size .count
+  pub handles : hs ≡ base t size .handles
+  pub parents : ps ≡ base t size .parents
+  pub ends : es ≡ base t size .ends
+  pub marks : ms ≡ base t size .marks
+  pub names : ns ≡ base t size .names
+  pub news : new ≡ ahead (newPlaces t size) old
+
+-- lists that are a table's
+pub record Lists (t : Table) (hs ps es ms ns : List ℕ) : Type 0 where
+  pub handles : hs ≡ t .handles
+  pub parents : ps ≡ t .parents
+  pub ends : es ≡ t .ends
+  pub marks : ms ≡ t .marks
+  pub names : ns ≡ t .names

@@ -1,0 +1,5 @@
+pub mod Refusals
+pub mod Deleted
+pub mod Collected
+pub mod Added
+pub mod Facts

@@ -1,0 +1,5 @@
+-- The laws of this crate that a crate above it may cite, beside its specs: its interface to proofs.
+-- Assumes nothing.
+pub mod Numerals
+pub mod Row
+pub mod Refusing

@@ -1,0 +1,3 @@
+pub mod laws
+pub mod Moving
+pub mod Unique

@@ -1,0 +1,4 @@
+pub mod Held
+pub mod Turn
+pub mod Run
+pub mod Fair
