@@ -62,6 +62,8 @@ def main(words):
         return told(failure, failure.status)
     except OSError as error:
         return told(f"{named(str(error.filename))}: {error.strerror}" if error.filename else error.strerror, 1)
+    finally:
+        signals.ignore()
 
 
 def told(sentence, status):

@@ -10,7 +10,6 @@ class Watch:
 
     def __init__(self):
         self.poll, self.calls = select.poll(), {}
-        self.poll.register(signals.waking(), select.POLLIN)
 
     def add(self, file, call, events=select.POLLIN):
         self.calls[file] = call

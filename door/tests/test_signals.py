@@ -47,8 +47,11 @@ class Signals(Place):
         else:
             self.assertEqual(self.out.read_bytes(), BEFORE, turn)
             self.assertNotIn("kept", said, turn)
-            # Before Python listens the signal ends it as any program; from then on a sentence does.
-            self.assertTrue(status == 1 and "ptp: ended by SIG" in said or status == -ENDING[turn % len(ENDING)], (turn, status, said))
+            self.assertTrue(self.was_ended_by(ENDING[turn % len(ENDING)], status, said), (turn, status, said))
+
+    def was_ended_by(self, number, status, said):
+        """Before Python is started the signal ends it as any program; from then on a sentence does."""
+        return (status, said) in ((-number, ""), (1, f"ptp: ended by {number.name}\n"))
 
     def test_a_signal_while_a_fifo_waits_for_its_reader(self):
         os.mkfifo(self.folder / "fifo")
