@@ -68,6 +68,9 @@ extern "C" {
         counts_len: usize,
     ) -> i64;
     fn ptp_write_ending(records: u64, place: u64, out: *mut u8, out_len: usize) -> i64;
+    fn ptp_read_packet(s: *const u8, s_len: usize, at: usize, out: *mut u64, out_len: usize) -> i64;
+    fn ptp_to_network(s: *const u8, s_len: usize, to_camera: bool, out: *mut u8, out_len: usize) -> i64;
+    fn ptp_from_network(s: *const u8, s_len: usize, out: *mut u8, out_len: usize) -> i64;
     fn ptp_response_place(code: u16) -> i64;
     fn ptp_command_place(code: u16) -> i64;
     #[cfg(test)] // what it gives stands in code.rs
@@ -89,6 +92,7 @@ extern "C" {
         out_len: usize,
     ) -> i64;
     fn ptp_read_record(s: *const u8, s_len: usize, out: *mut u64, out_len: usize) -> i64;
+    fn ptp_read_recording(s: *const u8, s_len: usize, out: *mut u64, out_len: usize) -> i64;
     fn ptp_copy_recording(s: *const u8, s_len: usize, out: *mut u8, out_len: usize, left: *mut u64, left_len: usize) -> i64;
     fn ptp_mend_recording(
         s: *const u8,
@@ -249,7 +253,7 @@ fn told(answer: i64) -> Result<usize, Refusal> {
         return Ok(answer as usize);
     }
     let refusal = answer.unsigned_abs();
-    Err(Refusal::from_number(refusal % 256, (refusal / 256) as usize).expect("the archive refuses by 1 to 19"))
+    Err(Refusal::from_number(refusal % 256, (refusal / 256) as usize).expect("the archive refuses by 1 to 22"))
 }
 
 // The farthest place that the archive tells. Only one that the caller gave can be as far, where nothing can be read: then the refusal is of it.
@@ -369,6 +373,18 @@ pub(crate) fn read_container(s: &[u8], at: usize) -> Result<[u64; 6], Refusal> {
     read_at(ptp_read_container, s, at)
 }
 
+pub(crate) fn read_packet(s: &[u8], at: usize) -> Result<[u64; 8], Refusal> {
+    read_at(ptp_read_packet, s, at)
+}
+
+pub(crate) fn to_network(s: &[u8], to_camera: bool, out: &mut [u8]) -> Result<usize, Refusal> {
+    told(unsafe { ptp_to_network(s.as_ptr(), s.len(), to_camera, out.as_mut_ptr(), out.len()) })
+}
+
+pub(crate) fn from_network(s: &[u8], out: &mut [u8]) -> Result<usize, Refusal> {
+    write(ptp_from_network, s, out)
+}
+
 pub(crate) fn write_container(kind: u16, code: u16, number: u32, payload: &[u8], out: &mut [u8]) -> Result<usize, Refusal> {
     told(unsafe { ptp_write_container(kind, code, number, payload.as_ptr(), payload.len(), out.as_mut_ptr(), out.len()) })
 }
@@ -433,6 +449,11 @@ unsafe extern "C" fn book_prop_info(s: *const u8, s_len: usize, out: *mut u64, o
 
 pub(crate) fn read_record(s: &[u8]) -> Result<[u64; 9], Refusal> {
     read(ptp_read_record, s)
+}
+
+/// How many records.
+pub(crate) fn read_recording(s: &[u8]) -> Result<[u64; 1], Refusal> {
+    read(ptp_read_recording, s)
 }
 
 /// The bytes written; then the records and the bytes that were left out.
@@ -675,8 +696,14 @@ mod tests {
         try_rooms(crate_prop_info, &[0; 64], 16);
         try_rooms(book_prop_info, &[0; 64], 16);
         try_rooms(ptp_read_record, &[6, 0, 0, 0, 3, 0], 9);
+        try_rooms(ptp_read_recording, &[6, 0, 0, 0, 3, 0], 1);
+        try_rooms(first_packet, &[14, 0, 0, 0, 7, 0, 0, 0, 1, 32, 0, 0, 0, 0], 8);
         try_rooms(first_setting, &ENTRY, 9);
         try_rooms(found_setting, &ENTRY, 4);
+    }
+
+    unsafe extern "C" fn first_packet(s: *const u8, s_len: usize, out: *mut u64, out_len: usize) -> i64 {
+        ptp_read_packet(s, s_len, 0, out, out_len)
     }
 
     // An entry for any camera, without a value: alone in its row it is the first, and what is found.
@@ -731,6 +758,8 @@ mod tests {
             crate_prop_info,
             book_prop_info,
             ptp_read_record,
+            ptp_read_recording,
+            first_packet,
             first_setting,
             found_setting,
         ] {
