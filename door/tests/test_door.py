@@ -32,11 +32,11 @@ class Words(Door):
         self.assertEqual((status, said), (0, ""))
         for words in (["--help"], ["-h"], ["list", "--help"], ["wrong", "-h"]):
             self.assertEqual(box.run(*words, kit=False), (0, page, ""), words)
-        for command in ("list", "copy", "mend", "settings", "help"):
+        for command in ("list", "copy", "mend", "settings", "packets", "help"):
             self.assertIn(f"\nptp {command}", "\n" + page)
         for command in ("ask", "compare", "rust", "install", "bench", "wrong", "test"):
             self.assertIn(f"\n./ptp {command}", page)
-        for command in ("list", "copy", "mend", "settings", "ask", "compare", "rust", "install", "bench", "wrong", "test"):
+        for command in ("list", "copy", "mend", "settings", "packets", "ask", "compare", "rust", "install", "bench", "wrong", "test"):
             self.assertRegex(page, rf"\n {{10,}}(echo .* \| )?(\./)?ptp {command}")
 
     def refused(self, box, words, named):
@@ -66,6 +66,8 @@ class Words(Door):
         self.refused(box, ["settings", "--check"], "--check")
         self.refused(box, ["settings", there, "second"], "second")
         self.refused(box, ["settings", "missing.settings"], "missing.settings")
+        self.refused(box, ["packets", "--check"], "--check")
+        self.refused(box, ["packets", "missing.packets"], "missing.packets")
         for words, named in (("6 0x500d UINT32", "VENDOR"), ("6 0x500d UINT32 1 00417 more", "VENDOR"), ("x 0x500d UINT32 1", "x is no vendor"),
                              ("4294967296 1 UINT8 1", "vendor"), ("6 65536 UINT8 1", "property"), ("6 1 UINT7 1", "UINT7"), ("6 1 UINT8 256", "0 to 255"),
                              ("6 1 INT8 -129", "-128 to 127"), ("6 1 AUINT8 1,300", "300"), ("6 1 0x0000 1", "no value"), ("6 1 0x800a 1", "no value"),
@@ -214,6 +216,35 @@ class Rows(Door):
         self.assertIn("in the meantime", said)
 
 
+class Packets(Door):
+    # Answers each line with the next of these, and ends where there is none.
+    ASK = "#!/bin/sh\nexec 3<<'END'\n{}\nEND\nwhile read -r question; do echo \"$question\" >>asked; read -r answer <&3 || exit 0; echo \"$answer\"; done\n"
+
+    def shown(self, answers, data):
+        box = self.built(self.ASK.format("\n".join(answers)))
+        return box.run("packets", input=data), (box.folder / "asked").read_text().splitlines()
+
+    def test_a_line_a_packet(self):
+        answers = ["ok 6 1 4098 0 18 4 22", "ok OpenSession", "ok 9 7 5 20", "ok 10 7 12 3 15", "ok 12 7 12 2 14", "ok 7 40961 7 14 0 14", "none"]
+        text = "0 request OpenSession 0 4\n22 start-data 7 5\n42 data 7 3\n57 end-data 7 2\n71 response 0xa001 7 0\n"
+        shown, asked = self.shown(answers, bytes(85))
+        self.assertEqual(shown, (0, text, ""))
+        self.assertEqual((asked[1], asked[-1]), ("command-name 4098", "response-name 40961"))
+
+    def test_a_refusal_ends_it(self):
+        self.assertEqual(self.shown(["ok 9 7 5 20", "no 1 8"], bytes(30))[0], (1, "0 start-data 7 5\n20 refusal 1 8\n", ""))
+        self.assertEqual(self.shown(["no 20"], bytes(800))[0], (1, "0 refusal 20\n", ""))
+
+    def test_a_packet_is_asked_of_more_bytes_until_it_is_whole(self):
+        shown, asked = self.shown(["no 1 8", "ok 12 7 12 238 250"], bytes(250))
+        self.assertEqual(shown, (0, "0 end-data 7 238\n", ""))
+        self.assertEqual([len(line) for line in asked], [len("packet 0 ") + 2 * size for size in (64, 250)])
+
+    def test_what_is_too_long_or_fails_is_told(self):
+        self.assertEqual(self.shown(["?"], bytes(9))[0], (1, "", "ptp: the packet at byte 0 is too long to be asked\n"))
+        self.assertEqual(self.shown(["ok 9 7 5 20"], bytes(21))[0], (1, "", "ptp: ask ended inside its answer\n"))
+
+
 class Shown(Door):
     SLOW = "#!/bin/sh\nhead -c 1000000\nsleep 3\ncat\necho 'left out 0 records 0 bytes' >&2\n"
 
@@ -241,7 +272,7 @@ class Shown(Door):
     def test_the_pages_tell_of_the_same_commands(self):
         help_page = self.sandbox().run("help", kit=False)[1]
         manual, readme = (ROOT / "docs" / "ptp.1").read_text().replace("\\", ""), (ROOT / "README.md").read_text()
-        for command in ("list", "copy", "mend", "settings", "help"):
+        for command in ("list", "copy", "mend", "settings", "packets", "help"):
             self.assertIn(f"\nptp {command}", "\n" + help_page)
             self.assertIn(f"\n.B ptp {command}\n", manual)
             self.assertIn(f"`./ptp {command}", readme)
