@@ -514,6 +514,57 @@ static inline int64_t ptp_objects_add(struct ptp_objects *o, size_t parent, uint
     return place;
 }
 
+/* The places of the live objects as a folder view: each folder, then all below it, before the next one at its level; siblings in rising places.
+ * They are the walk's, in another order. Answers how many. Refusals: the table's; ROOM. A chain of 1,024 objects takes STACK of stack. */
+int64_t ptp_folders(const uint32_t *handles, size_t handles_len, const uint16_t *parents, size_t parents_len, const uint32_t *ends,
+                    size_t ends_len, const uint8_t *marks, size_t marks_len, size_t count, const uint8_t *names, size_t names_len,
+                    uint16_t *places, size_t places_len);
+
+/* The paths of all live objects in that order, as ptp_paths gives them in walk order: the same paths, and as many bytes. */
+int64_t ptp_folder_paths(const uint32_t *handles, size_t handles_len, const uint16_t *parents, size_t parents_len, const uint32_t *ends,
+                         size_t ends_len, const uint8_t *marks, size_t marks_len, size_t count, const uint8_t *names, size_t names_len,
+                         uint8_t *out, size_t out_len, uint32_t *out_ends, size_t out_ends_len);
+
+/* ---- a table that keeps its links: of each place its first child, and the next below the same parent ----
+ *
+ * Two lists more, with PTP_PLACES places each. Of a live place `first` is its lowest live child, `next` the next higher live place with the same
+ * parent; 0 is none. Everything else in them is 0, so a table has one pair of links; those of a root alone are 0 throughout. Each function answers
+ * and refuses as the one without links does, and TABLE also where the links are not the table's own. It goes by the links, and leaves those of the
+ * table that it leaves. */
+
+/* Writes the links of a table. Answers the count. Refusals: the table's, TABLE also where a list of links has not 1,024 places. */
+int64_t ptp_table_link(const uint32_t *handles, size_t handles_len, const uint16_t *parents, size_t parents_len, const uint32_t *ends,
+                       size_t ends_len, const uint8_t *marks, size_t marks_len, size_t count, const uint8_t *names, size_t names_len,
+                       uint16_t *first, size_t first_len, uint16_t *next, size_t next_len);
+
+/* As ptp_walk. */
+int64_t ptp_linked_walk(const uint32_t *handles, size_t handles_len, const uint16_t *parents, size_t parents_len, const uint32_t *ends,
+                        size_t ends_len, const uint8_t *marks, size_t marks_len, size_t count, const uint8_t *names, size_t names_len,
+                        const uint16_t *first, size_t first_len, const uint16_t *next, size_t next_len,
+                        uint16_t *places, size_t places_len);
+
+/* As ptp_paths. */
+int64_t ptp_linked_paths(const uint32_t *handles, size_t handles_len, const uint16_t *parents, size_t parents_len, const uint32_t *ends,
+                         size_t ends_len, const uint8_t *marks, size_t marks_len, size_t count, const uint8_t *names, size_t names_len,
+                         const uint16_t *first, size_t first_len, const uint16_t *next, size_t next_len,
+                         uint8_t *out, size_t out_len, uint32_t *out_ends, size_t out_ends_len);
+
+/* As ptp_table_delete. */
+int64_t ptp_linked_delete(const uint32_t *handles, size_t handles_len, const uint16_t *parents, size_t parents_len, const uint32_t *ends,
+                          size_t ends_len, uint8_t *marks, size_t marks_len, size_t count, const uint8_t *names, size_t names_len,
+                          uint16_t *first, size_t first_len, uint16_t *next, size_t next_len, size_t place);
+
+/* As ptp_table_collect. */
+int64_t ptp_linked_collect(uint32_t *handles, size_t handles_len, uint16_t *parents, size_t parents_len, uint32_t *ends, size_t ends_len,
+                           uint8_t *marks, size_t marks_len, size_t count, uint8_t *names, size_t names_len, uint16_t *first, size_t first_len,
+                           uint16_t *next, size_t next_len, uint16_t *new_places, size_t new_places_len);
+
+/* As ptp_table_add. */
+int64_t ptp_linked_add(uint32_t *handles, size_t handles_len, uint16_t *parents, size_t parents_len, uint32_t *ends, size_t ends_len,
+                       uint8_t *marks, size_t marks_len, size_t count, uint8_t *names, size_t names_len, uint16_t *first, size_t first_len,
+                       uint16_t *next, size_t next_len, uint16_t *new_places, size_t new_places_len, size_t parent, uint32_t handle,
+                       const uint8_t *name, size_t name_len);
+
 /* ---- settings: a row of entries, a property's value each, for a camera of one serial or for any ----
  *
  * An entry, all numbers with the low byte first: its length in 4 bytes, these included, its kind in 2; the vendor extension in 4, the
