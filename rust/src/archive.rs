@@ -8,6 +8,7 @@
 //! - All numbers are plain: every bit pattern that comes back is one that its type has.
 #![allow(unsafe_code)]
 use crate::changes::ObjectTableMut;
+use crate::links::{Links, LinksMut};
 use crate::refusal::Refusal;
 use crate::tree::ObjectTable;
 
@@ -195,6 +196,155 @@ extern "C" {
         out_len: usize,
         out_ends: *mut u32,
         out_ends_len: usize,
+    ) -> i64;
+    fn ptp_folders(
+        handles: *const u32,
+        handles_len: usize,
+        parents: *const u16,
+        parents_len: usize,
+        ends: *const u32,
+        ends_len: usize,
+        marks: *const u8,
+        marks_len: usize,
+        count: usize,
+        names: *const u8,
+        names_len: usize,
+        places: *mut u16,
+        places_len: usize,
+    ) -> i64;
+    fn ptp_folder_paths(
+        handles: *const u32,
+        handles_len: usize,
+        parents: *const u16,
+        parents_len: usize,
+        ends: *const u32,
+        ends_len: usize,
+        marks: *const u8,
+        marks_len: usize,
+        count: usize,
+        names: *const u8,
+        names_len: usize,
+        out: *mut u8,
+        out_len: usize,
+        out_ends: *mut u32,
+        out_ends_len: usize,
+    ) -> i64;
+    fn ptp_table_link(
+        handles: *const u32,
+        handles_len: usize,
+        parents: *const u16,
+        parents_len: usize,
+        ends: *const u32,
+        ends_len: usize,
+        marks: *const u8,
+        marks_len: usize,
+        count: usize,
+        names: *const u8,
+        names_len: usize,
+        first: *mut u16,
+        first_len: usize,
+        next: *mut u16,
+        next_len: usize,
+    ) -> i64;
+    fn ptp_linked_walk(
+        handles: *const u32,
+        handles_len: usize,
+        parents: *const u16,
+        parents_len: usize,
+        ends: *const u32,
+        ends_len: usize,
+        marks: *const u8,
+        marks_len: usize,
+        count: usize,
+        names: *const u8,
+        names_len: usize,
+        first: *const u16,
+        first_len: usize,
+        next: *const u16,
+        next_len: usize,
+        places: *mut u16,
+        places_len: usize,
+    ) -> i64;
+    fn ptp_linked_paths(
+        handles: *const u32,
+        handles_len: usize,
+        parents: *const u16,
+        parents_len: usize,
+        ends: *const u32,
+        ends_len: usize,
+        marks: *const u8,
+        marks_len: usize,
+        count: usize,
+        names: *const u8,
+        names_len: usize,
+        first: *const u16,
+        first_len: usize,
+        next: *const u16,
+        next_len: usize,
+        out: *mut u8,
+        out_len: usize,
+        out_ends: *mut u32,
+        out_ends_len: usize,
+    ) -> i64;
+    fn ptp_linked_delete(
+        handles: *const u32,
+        handles_len: usize,
+        parents: *const u16,
+        parents_len: usize,
+        ends: *const u32,
+        ends_len: usize,
+        marks: *mut u8,
+        marks_len: usize,
+        count: usize,
+        names: *const u8,
+        names_len: usize,
+        first: *mut u16,
+        first_len: usize,
+        next: *mut u16,
+        next_len: usize,
+        place: usize,
+    ) -> i64;
+    fn ptp_linked_collect(
+        handles: *mut u32,
+        handles_len: usize,
+        parents: *mut u16,
+        parents_len: usize,
+        ends: *mut u32,
+        ends_len: usize,
+        marks: *mut u8,
+        marks_len: usize,
+        count: usize,
+        names: *mut u8,
+        names_len: usize,
+        first: *mut u16,
+        first_len: usize,
+        next: *mut u16,
+        next_len: usize,
+        new_places: *mut u16,
+        new_places_len: usize,
+    ) -> i64;
+    fn ptp_linked_add(
+        handles: *mut u32,
+        handles_len: usize,
+        parents: *mut u16,
+        parents_len: usize,
+        ends: *mut u32,
+        ends_len: usize,
+        marks: *mut u8,
+        marks_len: usize,
+        count: usize,
+        names: *mut u8,
+        names_len: usize,
+        first: *mut u16,
+        first_len: usize,
+        next: *mut u16,
+        next_len: usize,
+        new_places: *mut u16,
+        new_places_len: usize,
+        parent: usize,
+        handle: u32,
+        name: *const u8,
+        name_len: usize,
     ) -> i64;
     fn ptp_table_delete(
         handles: *const u32,
@@ -633,6 +783,106 @@ pub(crate) fn path(table: &ObjectTable<'_>, place: usize, out: &mut [u8]) -> Res
 
 pub(crate) fn paths(table: &ObjectTable<'_>, out: &mut [u8], out_ends: &mut [u32]) -> Result<usize, Refusal> {
     of_table!(ptp_paths, table, as_ptr, table.count, out.as_mut_ptr(), out.len(), out_ends.as_mut_ptr(), out_ends.len())
+}
+
+pub(crate) fn folders(table: &ObjectTable<'_>, places: &mut [u16]) -> Result<usize, Refusal> {
+    of_table!(ptp_folders, table, as_ptr, table.count, places.as_mut_ptr(), places.len())
+}
+
+pub(crate) fn folder_paths(table: &ObjectTable<'_>, out: &mut [u8], out_ends: &mut [u32]) -> Result<usize, Refusal> {
+    of_table!(ptp_folder_paths, table, as_ptr, table.count, out.as_mut_ptr(), out.len(), out_ends.as_mut_ptr(), out_ends.len())
+}
+
+// Of a table that keeps its links, which come behind it, lent as it is.
+macro_rules! of_linked {
+    ($function:ident, $table:ident, $links:ident, $pointer:ident, $count:expr, $($more:expr),+) => {
+        of_table!(
+            $function,
+            $table,
+            $pointer,
+            $count,
+            $links.first.$pointer(),
+            $links.first.len(),
+            $links.next.$pointer(),
+            $links.next.len(),
+            $($more),+
+        )
+    };
+}
+
+/// The count.
+pub(crate) fn table_link(table: &ObjectTable<'_>, links: &mut LinksMut<'_>) -> Result<usize, Refusal> {
+    of_table!(
+        ptp_table_link,
+        table,
+        as_ptr,
+        table.count,
+        links.first.as_mut_ptr(),
+        links.first.len(),
+        links.next.as_mut_ptr(),
+        links.next.len()
+    )
+}
+
+pub(crate) fn linked_walk(table: &ObjectTable<'_>, links: Links<'_>, places: &mut [u16]) -> Result<usize, Refusal> {
+    of_linked!(ptp_linked_walk, table, links, as_ptr, table.count, places.as_mut_ptr(), places.len())
+}
+
+pub(crate) fn linked_paths(
+    table: &ObjectTable<'_>,
+    links: Links<'_>,
+    out: &mut [u8],
+    out_ends: &mut [u32],
+) -> Result<usize, Refusal> {
+    of_linked!(
+        ptp_linked_paths,
+        table,
+        links,
+        as_ptr,
+        table.count,
+        out.as_mut_ptr(),
+        out.len(),
+        out_ends.as_mut_ptr(),
+        out_ends.len()
+    )
+}
+
+/// The count, which stays.
+pub(crate) fn linked_delete(table: &mut ObjectTableMut<'_>, links: &mut LinksMut<'_>, place: usize) -> Result<usize, Refusal> {
+    of_linked!(ptp_linked_delete, table, links, as_mut_ptr, *table.count, place)
+}
+
+/// The new count.
+pub(crate) fn linked_collect(
+    table: &mut ObjectTableMut<'_>,
+    links: &mut LinksMut<'_>,
+    new_places: &mut [u16],
+) -> Result<usize, Refusal> {
+    of_linked!(ptp_linked_collect, table, links, as_mut_ptr, *table.count, new_places.as_mut_ptr(), new_places.len())
+}
+
+/// The object's place.
+pub(crate) fn linked_add(
+    table: &mut ObjectTableMut<'_>,
+    links: &mut LinksMut<'_>,
+    new_places: &mut [u16],
+    parent: usize,
+    handle: u32,
+    name: &[u8],
+) -> Result<usize, Refusal> {
+    of_linked!(
+        ptp_linked_add,
+        table,
+        links,
+        as_mut_ptr,
+        *table.count,
+        new_places.as_mut_ptr(),
+        new_places.len(),
+        parent,
+        handle,
+        name.as_ptr(),
+        name.len()
+    )
 }
 
 /// The count, which stays.

@@ -14,7 +14,7 @@ use ptp_proved::{
 };
 
 /// Every kind that is compared.
-pub const KINDS: [&str; 53] = [
+pub const KINDS: [&str; 61] = [
     "response-name",
     "command-name",
     "value",
@@ -57,6 +57,14 @@ pub const KINDS: [&str; 53] = [
     "delete",
     "collect",
     "add",
+    "folders",
+    "folder-paths",
+    "link",
+    "linked-walk",
+    "linked-paths",
+    "linked-delete",
+    "linked-collect",
+    "linked-add",
     "settings",
     "settings-find",
     "settings-store",
@@ -88,7 +96,10 @@ pub fn answer(kind: &str, words: &[&str]) -> Option<String> {
         }
         ("call", [name, state, storage, filter, handle, room]) => links::call(name, state, [storage, filter, handle], room),
         ("answer", [number, s]) => links::answer(number, s),
-        ("walk" | "path" | "paths" | "delete" | "collect" | "add", _) => tables::answer(kind, words),
+        ("walk" | "path" | "paths" | "folders" | "folder-paths" | "delete" | "collect" | "add" | "link", _) => {
+            tables::answer(kind, words)
+        }
+        ("linked-walk" | "linked-paths" | "linked-delete" | "linked-collect" | "linked-add", _) => tables::answer(kind, words),
         ("settings", [edition, row]) => settings::row(edition, row),
         ("settings-find", [edition, row, vendor, property, serial]) => settings::find(edition, row, vendor, property, serial),
         ("settings-store", [edition, row, entry, room]) => settings::store(edition, row, entry, room),
