@@ -34,6 +34,11 @@ def run_packets(words):
     return packets.run(words)
 
 
+def run_folders(words):
+    from door import folders
+    return folders.run(words)
+
+
 def run_help(words):
     from door import help
     if words:
@@ -41,7 +46,8 @@ def run_help(words):
     return help.show()
 
 
-COMMANDS = {"list": run_list, "copy": run_copy, "mend": run_mend, "settings": run_settings, "packets": run_packets, "ask": run_ask, "help": run_help}
+COMMANDS = {"list": run_list, "copy": run_copy, "mend": run_mend, "settings": run_settings, "packets": run_packets, "folders": run_folders,
+            "ask": run_ask, "help": run_help}
 HELP = ("-h", "--help")
 
 

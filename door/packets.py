@@ -1,11 +1,10 @@
 """packets [FILE]: the packets of PTP/IP, a line each, by the answers of the proved program `ask`"""
 
 import functools
-import os
 
-from door import inputs, signals, standard
+from door import inputs, standard
+from door.asking import Asking
 from door.failure import Failure
-from door.program import PIECE, Process, words_of
 
 MOST_BYTES = 1 << 26
 # What is asked of a packet at first; where it is longer, more.
@@ -21,33 +20,8 @@ KINDS = {
 }
 
 
-class Asking(Process):
-    """`ask` at work: a question, its answer, and the next."""
-
-    def __init__(self):
-        given, self.questions = os.pipe()
-        self.answers, made = os.pipe()
-        super().__init__(words_of("ask"), [(os.POSIX_SPAWN_DUP2, given, 0), (os.POSIX_SPAWN_DUP2, made, 1)])
-        os.close(given)
-        os.close(made)
-        self.held = b""
-
-    def answer(self, question):
-        """The words of the answer."""
-        asked = memoryview(question.encode() + b"\n")
-        try:
-            with signals.taken():
-                while asked:
-                    asked = asked[os.write(self.questions, asked):]
-                while b"\n" not in self.held:
-                    self.held += os.read(self.answers, PIECE) or self.ended()
-        except BrokenPipeError:
-            self.ended()
-        line, _, self.held = self.held.partition(b"\n")
-        return line.decode("ascii").split(" ")
-
-    def ended(self):
-        raise Failure("ask ended inside its answer")
+class Packets(Asking):
+    """What `ask` tells of packets."""
 
     @functools.lru_cache(maxsize=None)
     def name_of(self, whose, code):
@@ -88,7 +62,7 @@ def run(words):
     data = inputs.read_at_most(file, MOST_BYTES)
     if len(data) > MOST_BYTES:
         raise Failure(f"the file has more than {MOST_BYTES:,} bytes")
-    with Asking() as asking:
+    with Packets() as asking:
         text, is_accepted = shown(asking, data)
     standard.write_all(standard.OUTPUT, text.encode())
     return 0 if is_accepted else 1

@@ -61,6 +61,17 @@ class Programs(unittest.TestCase):
         report = f"kept 47 records {len(day)} bytes, dropped 0 stretches 0 bytes\n".encode()
         self.assertEqual((run.returncode, run.stdout, run.stderr), (0, day, report))
 
+    def test_every_table_is_shown_folder_by_folder(self):
+        """And one whose root has ended is refused."""
+        found = sorted(EXAMPLES.glob("*.table"))
+        self.assertTrue(found)
+        for path in found:
+            text, words = path.with_suffix(".shown").read_text(), path.read_text().split(" ")
+            self.assertEqual(result([PTP, "folders", path], env=NO_KIT), (0, text, ""), path)
+            self.assertEqual(result([PTP, "folders"], input=" ".join(words).encode(), cwd="/"), (0, text, ""), path)
+            words[3] = "0*1024"
+            self.assertEqual(result([PTP, "folders"], input=" ".join(words).encode()), (1, "refusal 11\n", ""), path)
+
     def test_every_row_of_packets_is_shown(self):
         """And a byte behind it is refused where it stands."""
         found = sorted(EXAMPLES.glob("*.packets"))
