@@ -1,4 +1,4 @@
-/* The byte layer of the picture transfer protocol: forty-nine proved functions, in C.
+/* The byte layer of the picture transfer protocol: sixty-one proved functions, in C.
  *
  * Each function answers how many numbers or bytes it gave, 0 or more; or a refusal, below 0: minus (its number, 1 to 22, and 256 times its
  * place), which ptp_refusal_number and ptp_refusal_place take apart. The place is that of the first byte of the field that failed, for
@@ -20,9 +20,10 @@
  * A property's description has one of two layouts, which the caller names by `book`: true for PIMA 15740's, which has no IsEnable byte,
  * false for the one with that byte behind GetSet. There is no default, and nothing guesses: some bytes fit both.
  *
- * What is proved: every function that is declared here stands in the archive, and is proved. Plain C are the nine that are defined here.
- * Three are arithmetic on one number of an answer each: ptp_refusal_number, ptp_refusal_place and ptp_string_place. Six hand the parts of a
- * struct ptp_objects on: ptp_objects_walk, ptp_objects_path, ptp_objects_paths, ptp_objects_delete, ptp_objects_collect and ptp_objects_add.
+ * What is proved: every function that is declared here stands in the archive, and is proved. Plain C are the eleven that are defined here.
+ * Three are arithmetic on one number of an answer each: ptp_refusal_number, ptp_refusal_place and ptp_string_place. Eight hand the parts of a
+ * struct ptp_objects on: ptp_objects_walk, ptp_objects_path, ptp_objects_paths, ptp_objects_folders, ptp_objects_folder_paths,
+ * ptp_objects_delete, ptp_objects_collect and ptp_objects_add.
  */
 #ifndef PTP_H
 #define PTP_H
@@ -436,6 +437,17 @@ int64_t ptp_paths(const uint32_t *handles, size_t handles_len, const uint16_t *p
                   size_t ends_len, const uint8_t *marks, size_t marks_len, size_t count, const uint8_t *names, size_t names_len, uint8_t *out,
                   size_t out_len, uint32_t *out_ends, size_t out_ends_len);
 
+/* The places of the live objects as a folder view: each folder, then all below it, before the next one at its level; siblings in rising places.
+ * They are the walk's, in another order. Answers how many. Refusals: the table's; ROOM. A chain of 1,024 objects takes STACK of stack. */
+int64_t ptp_folders(const uint32_t *handles, size_t handles_len, const uint16_t *parents, size_t parents_len, const uint32_t *ends,
+                    size_t ends_len, const uint8_t *marks, size_t marks_len, size_t count, const uint8_t *names, size_t names_len,
+                    uint16_t *places, size_t places_len);
+
+/* The paths of all live objects in that order, as ptp_paths gives them in walk order: the same paths, and as many bytes. */
+int64_t ptp_folder_paths(const uint32_t *handles, size_t handles_len, const uint16_t *parents, size_t parents_len, const uint32_t *ends,
+                         size_t ends_len, const uint8_t *marks, size_t marks_len, size_t count, const uint8_t *names, size_t names_len,
+                         uint8_t *out, size_t out_len, uint32_t *out_ends, size_t out_ends_len);
+
 /* Ends the object at a place and all that stand below it: their marks become 0, and nothing else changes. Answers the count, which stays.
  * Refusals: the table's; PLACE for the root, and where no live object stands. */
 int64_t ptp_table_delete(const uint32_t *handles, size_t handles_len, const uint16_t *parents, size_t parents_len, const uint32_t *ends,
@@ -490,6 +502,19 @@ static inline int64_t ptp_objects_paths(const struct ptp_objects *o, uint8_t *ou
                      o->names_len, out, out_len, out_ends, out_ends_len);
 }
 
+static inline int64_t ptp_objects_folders(const struct ptp_objects *o, uint16_t *places, size_t places_len)
+{
+    return ptp_folders(o->handles, PTP_PLACES, o->parents, PTP_PLACES, o->ends, PTP_PLACES, o->marks, PTP_PLACES, o->count, o->names,
+                       o->names_len, places, places_len);
+}
+
+static inline int64_t ptp_objects_folder_paths(const struct ptp_objects *o, uint8_t *out, size_t out_len, uint32_t *out_ends,
+                                               size_t out_ends_len)
+{
+    return ptp_folder_paths(o->handles, PTP_PLACES, o->parents, PTP_PLACES, o->ends, PTP_PLACES, o->marks, PTP_PLACES, o->count, o->names,
+                            o->names_len, out, out_len, out_ends, out_ends_len);
+}
+
 static inline int64_t ptp_objects_delete(struct ptp_objects *o, size_t place)
 {
     return ptp_table_delete(o->handles, PTP_PLACES, o->parents, PTP_PLACES, o->ends, PTP_PLACES, o->marks, PTP_PLACES, o->count, o->names,
@@ -513,17 +538,6 @@ static inline int64_t ptp_objects_add(struct ptp_objects *o, size_t parent, uint
         o->count = (size_t)place + 1;
     return place;
 }
-
-/* The places of the live objects as a folder view: each folder, then all below it, before the next one at its level; siblings in rising places.
- * They are the walk's, in another order. Answers how many. Refusals: the table's; ROOM. A chain of 1,024 objects takes STACK of stack. */
-int64_t ptp_folders(const uint32_t *handles, size_t handles_len, const uint16_t *parents, size_t parents_len, const uint32_t *ends,
-                    size_t ends_len, const uint8_t *marks, size_t marks_len, size_t count, const uint8_t *names, size_t names_len,
-                    uint16_t *places, size_t places_len);
-
-/* The paths of all live objects in that order, as ptp_paths gives them in walk order: the same paths, and as many bytes. */
-int64_t ptp_folder_paths(const uint32_t *handles, size_t handles_len, const uint16_t *parents, size_t parents_len, const uint32_t *ends,
-                         size_t ends_len, const uint8_t *marks, size_t marks_len, size_t count, const uint8_t *names, size_t names_len,
-                         uint8_t *out, size_t out_len, uint32_t *out_ends, size_t out_ends_len);
 
 /* ---- a table that keeps its links: of each place its first child, and the next below the same parent ----
  *

@@ -105,6 +105,17 @@ static void path(const struct asked *t, size_t place, size_t room)
     print_written(answer, second, room);
 }
 
+static int64_t folders(const struct asked *t)
+{
+    return t->whole ? ptp_objects_folders(t->whole, places, PTP_PLACES) : ptp_folders(LENT(t), places, PTP_PLACES);
+}
+
+static int64_t folder_paths(const struct asked *t, size_t room)
+{
+    return t->whole ? ptp_objects_folder_paths(t->whole, second, room, stops, PTP_PLACES)
+                    : ptp_folder_paths(LENT(t), second, room, stops, PTP_PLACES);
+}
+
 static int64_t paths(const struct asked *t, size_t room)
 {
     return t->whole ? ptp_objects_paths(t->whole, second, room, stops, PTP_PLACES) : ptp_paths(LENT(t), second, room, stops, PTP_PLACES);
@@ -116,7 +127,7 @@ static void print_paths(const char *kind, const struct asked *t, size_t room)
     memset(second, 0xA5, room);
     memset(stops, 0xA5, sizeof stops);
     int64_t answer = strcmp(kind, "paths") == 0          ? paths(t, room)
-                     : strcmp(kind, "folder-paths") == 0 ? ptp_folder_paths(LENT(t), second, room, stops, PTP_PLACES)
+                     : strcmp(kind, "folder-paths") == 0 ? folder_paths(t, room)
                                                          : ptp_linked_paths(LINKED(t), second, room, stops, PTP_PLACES);
     print_written(answer, second, room);
     if (answer >= 0)
@@ -212,7 +223,7 @@ static void ask_table(const char *kind, char *const *word)
     else if (strcmp(kind, "walk") == 0)
         print_places(walk(&t));
     else if (strcmp(kind, "folders") == 0)
-        print_places(ptp_folders(LENT(&t), places, PTP_PLACES));
+        print_places(folders(&t));
     else if (strcmp(kind, "path") == 0)
         path(&t, long_of(word[7]), number_of(word[8]));
     else if (strcmp(kind, "paths") == 0 || strcmp(kind, "folder-paths") == 0)
