@@ -6,3 +6,4 @@ pub mod Exact
 pub mod Scans
 pub mod Routes
 pub mod Trails
+pub mod Passing

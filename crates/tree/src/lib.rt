@@ -1,6 +1,7 @@
 // The object table: its rule, its walk and its paths. What is right is in specs/.
 mod climb;
 mod every;
+mod linking;
 mod name;
 mod queue;
 mod table;
@@ -8,6 +9,8 @@ mod table;
 pub use climb::path;
 pub use every::paths;
 use layout::Refusal;
+pub use linking::check_links;
+pub use linking::link;
 pub use queue::walk;
 pub use queue::walk_into;
 pub use table::check_name;
