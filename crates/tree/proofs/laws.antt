@@ -6,7 +6,7 @@ pub mod Ruled
 pub mod Accepted
 pub mod Below
 pub mod Ways
-pub mod Fallen
+pub mod Queued
 pub mod Chains
 pub mod Links
 pub mod Kept

@@ -68,7 +68,7 @@ pub fn paths(
     match table::check_table(handles, parents, ends, marks, count, names) {
         Checked::Whole(_) => {
             let mut places = [0u16; 1024];
-            let n = queue::walk_ruled(&parents[..count], &marks[..count], &mut places);
+            let n = queue::walk_made(&parents[..count], &marks[..count], &mut places);
             if out_ends.len() < n {
                 return Written::Refused(layout::plain(layout::ROOM));
             }

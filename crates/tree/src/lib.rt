@@ -11,6 +11,7 @@ pub use every::paths;
 use layout::Refusal;
 pub use linking::check_links;
 pub use linking::link;
+pub use linking::put_chain;
 pub use queue::walk;
 pub use queue::walk_into;
 pub use table::check_name;

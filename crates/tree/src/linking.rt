@@ -1,12 +1,13 @@
 // First child and next sibling of each live place, by one pass from the last place down.
 ghost use mathlib.Core.Path.{_≡_};
 ghost use mathlib.Core.Bool.{_&&_};
-ghost use Prim.Native.Nat.{ℕ};
+ghost use Prim.Native.Nat.{ℕ, _-_};
 ghost use lib.ListN.{length, getD};
+ghost use Rattle.layout.specs.Written.{Put};
 ghost use Rattle.tree.specs.Facts.{Ruled};
 ghost use Rattle.tree.specs.Table.{table, live};
 ghost use Rattle.tree.specs.Says.{saysChecked};
-ghost use Rattle.tree.specs.Links.{firstAt, nextAt, Linking, agrees, Linked, keptAt};
+ghost use Rattle.tree.specs.Links.{chainIn, firstAt, nextAt, Linking, agrees, Linked, keptAt};
 use crate::Checked;
 use crate::table;
 
@@ -68,6 +69,31 @@ fn same_links(parents: &[u16], marks: &[u8], first: &[u16], next: &[u16]) -> boo
         return false;
     }
     same(next, &made_next)
+}
+
+// The link of a place, none where it has no place.
+fn link_of(next: &[u16], k: u16) -> u16
+    ensures { λ r. ⌜ r ≡ getD (now (next .entry)) k 0 ⌝ }
+{
+    let at = k as usize;
+    if at < next.len() { next[at] } else { 0 }
+}
+
+// Puts a place and its later siblings, along the links, behind the first `count`, as far as there is room.
+pub fn put_chain(next: &[u16], from: u16, places: &mut [u16], count: usize) -> usize
+    ensures { λ r. ⌜ Put (now (places .entry)) count (chainIn (length (now (places .entry)) - count) (now (next .entry)) from) (now (places .exit)) r ⌝ }
+{
+    let mut n = count;
+    let mut k = from;
+    while n < places.len() {
+        if k == 0 {
+            return n;
+        }
+        places[n] = k;
+        n += 1;
+        k = link_of(next, k);
+    }
+    n
 }
 
 // The links of a table, both lists whole: 11 where one has not 1,024 places, and the table's refusals.

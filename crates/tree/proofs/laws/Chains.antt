@@ -1,18 +1,17 @@
 -- Live places with one parent, from a place on; and a chain of siblings, each link of which names where the rest starts.
 -- Assumes nothing.
-use mathlib.Core.Path.{_≡_, refl, sym, _∙_}
+use mathlib.Core.Path.{_≡_, refl, sym, ap, _∙_}
 use mathlib.Core.Bool.{Bool, true, false, _&&_, and-eq-true-iff}
 use mathlib.Core.List.{List, [], _∷_}
-use Prim.Native.Nat.{ℕ, zero, suc, _-_, _≤_, _<_}
+use Prim.Native.Nat.{ℕ, zero, suc, _+_, _-_, _≤_, _<_}
 use native.Mathlib.Omega.{arith}
 use borrow.Author.Tests.{eq-eqb, ne-eqb, eqb-true, le-leb, leb-true, leb-false}
 use lib.Dec.{eqb, leb}
 use lib.ListN.{length, getD}
-use Rattle.layout.specs.Answer.{pick}
-use Rattle.tree.specs.Facts.{Ruled, Marks}
+use Rattle.tree.specs.Facts.{Ruled}
 use Rattle.tree.specs.Table.{parent}
 use Rattle.tree.specs.Kids.{hangs, kidsIn, kids}
-use Rattle.tree.specs.Links.{Child, Lowest, lowest, nobody, firstOf, from, Linking}
+use Rattle.tree.specs.Links.{Child, Lowest, lowest, nobody, chainIn, firstOf, from, Linking}
 use Rattle.tree.proofs.laws.Below.{clash}
 use Rattle.tree.proofs.laws.Counts.{equal}
 
@@ -96,54 +95,50 @@ module _ (ps : List ℕ) (has : ℕ → Bool) (place : (k : ℕ) → has k ≡ t
 
 -- ── a chain ──
 
--- k and its later siblings; none where k is 0
-unfoldable pub siblings : List ℕ → (ℕ → Bool) → ℕ → ℕ → List ℕ
-siblings ps has p k = pick (eqb k 0) [] (k ∷ from ps has (suc k) p)
+chain-none : (f : ℕ) (ns : List ℕ) → chainIn f ns 0 ≡ []
+unfolding chainIn
+chain-none zero ns = refl
+chain-none (suc f) ns = refl
 
-pub siblings-none : (ps : List ℕ) (has : ℕ → Bool) (p k : ℕ) → k ≡ 0 → siblings ps has p k ≡ []
-unfolding siblings
-siblings-none ps has p k e = rw (eq-eqb k 0 e)
+pub chain-zero : (f : ℕ) (ns : List ℕ) (k : ℕ) → k ≡ 0 → chainIn f ns k ≡ []
+chain-zero f ns k e = rw e (chain-none f ns)
 
-pub siblings-step : (ps : List ℕ) (has : ℕ → Bool) (p k : ℕ) → (k ≡ 0 → ⊥) → siblings ps has p k ≡ k ∷ from ps has (suc k) p
-unfolding siblings
-siblings-step ps has p k e = rw (ne-eqb k 0 e)
+pub chain-full : (n m : ℕ) (ns : List ℕ) (k : ℕ) → m ≤ n → chainIn (m - n) ns k ≡ []
+unfolding chainIn
+chain-full n m ns k h = let z : m - n ≡ 0 = omega arith in rw z
 
--- k is none, or it is live and its parent is p
-pub record Hangs (ps : List ℕ) (has : ℕ → Bool) (p k : ℕ) : Type 0 where
-  pub there : k < length ps
-  pub fine : (k ≡ 0 → ⊥) → (has k ≡ true) × (parent ps k ≡ p)
+chain-some : (f : ℕ) (ns : List ℕ) (k : ℕ) → (k ≡ 0 → ⊥) → chainIn (suc f) ns k ≡ k ∷ chainIn f ns (getD ns k 0)
+unfolding chainIn
+chain-some f ns k e = rw (ne-eqb k 0 e)
 
-module _ (ps : List ℕ) (rule : Ruled ps) (has : ℕ → Bool) (marks : Marks ps has) (p : ℕ) where
-  hangs-of : {m k : ℕ} → Lowest ps has p m k → Hangs ps has p k
-  hangs-of {k = k} (lowest c f) = record { there = marks .place k (c .living); fine = λ e. (c .living, c .up) }
-  hangs-of (nobody f) = record { there = rule .some; fine = λ e. absurd (e refl) }
+-- with room for one more
+pub chain-turn : (n m : ℕ) (ns : List ℕ) (k : ℕ) → n < m → (k ≡ 0 → ⊥) → chainIn (m - n) ns k ≡ k ∷ chainIn (m - (n + 1)) ns (getD ns k 0)
+chain-turn n m ns k h e = let z : m - n ≡ suc (m - (n + 1)) = omega arith in rw z (chain-some (m - (n + 1)) ns k e)
 
-  siblings-by : (d m : ℕ) → length ps - m ≡ d → 0 < m → siblings ps has p (firstOf (from ps has m p)) ≡ from ps has m p
-  siblings-by zero m e s = rw (from-none ps has m p (omega arith)) (siblings-none ps has p 0 refl)
-  siblings-by (suc d) m e s = by (hangs ps has p m) refl (siblings-by d (suc m) (omega arith) (omega arith))
+module _ {ps : List ℕ} {has : ℕ → Bool} {fs ns : List ℕ} (s : Linking ps has 1 fs ns) (p : ℕ) where
+  -- the links lead from the first of those from m on to all of them
+  chain-by : (d m f : ℕ) → length ps - m ≡ d → 0 < m → length (from ps has m p) ≤ f → chainIn f ns (firstOf (from ps has m p)) ≡ from ps has m p
+  chain-by zero m f e o h = rw (from-none ps has m p (omega arith)) (chain-none f ns)
+  chain-by (suc d) m f e o h = by (hangs ps has p m) refl f h (λ f h. chain-by d (suc m) f (omega arith) (omega arith) h)
     where
       l : m < length ps
       l = omega arith
 
-      by : (b : Bool) → hangs ps has p m ≡ b → siblings ps has p (firstOf (from ps has (suc m) p)) ≡ from ps has (suc m) p
-          → siblings ps has p (firstOf (from ps has m p)) ≡ from ps has m p
-      by true q r = rw (from-hit ps has m l p q) (siblings-step ps has p m (λ z. omega arith))
-      by false q r = rw (from-miss ps has m l p q) r
+      by : (b : Bool) → hangs ps has p m ≡ b → (f : ℕ) → length (from ps has m p) ≤ f
+          → ((f : ℕ) → length (from ps has (suc m) p) ≤ f → chainIn f ns (firstOf (from ps has (suc m) p)) ≡ from ps has (suc m) p) → chainIn f ns (firstOf (from ps has m p)) ≡ from ps has m p
+      by true q zero h g = absurd (let z = ap length (from-hit ps has m l p q) in omega arith)
+      by true q (suc f) h g =
+          let z = ap length (from-hit ps has m l p q) in
+          let a = and-eq-true-iff (has m) (eqb (parent ps m) p) .0 q in
+          let n : getD ns m 0 ≡ firstOf (from ps has (suc m) p) = s .next m ∙ rw (a .0, eqb-true (parent ps m) p (a .1), le-leb 1 m o) in
+          rw (from-hit ps has m l p q) (chain-some f ns m (λ z. omega arith) ∙ ap (λ (w : List ℕ). m ∷ w) (rw n (g f (omega arith))))
+      by false q f h g =
+          let z = ap length (from-miss ps has m l p q) in
+          rw (from-miss ps has m l p q) (g f (omega arith))
 
-  -- the first from m on starts those from m on
-  pub siblings-from : (m : ℕ) → 0 < m → (siblings ps has p (firstOf (from ps has m p)) ≡ from ps has m p) × Hangs ps has p (firstOf (from ps has m p))
-  siblings-from m s = (siblings-by (length ps - m) m refl s, hangs-of (lowest-from ps has (marks .place) p m))
-
-module _ {ps : List ℕ} (rule : Ruled ps) {has : ℕ → Bool} (marks : Marks ps has) {fs ns : List ℕ} (s : Linking ps has 1 fs ns) where
-  -- a place's first child starts the chain of its children
-  pub first-chain : (p : ℕ) → (siblings ps has p (getD fs p 0) ≡ kids ps has p) × Hangs ps has p (getD fs p 0)
-  first-chain p =
-      let c = siblings-from ps rule has marks p 1 (omega arith) in
-      rw (s .first p) (c .0 ∙ from-kids ps rule has p, c .1)
-
-  next-is : (p k : ℕ) → Hangs ps has p k → (k ≡ 0 → ⊥) → getD ns k 0 ≡ firstOf (from ps has (suc k) p)
-  next-is p k g e = let f = g .fine e in s .next k ∙ rw (f .0, f .1, le-leb 1 k (omega arith))
-
-  -- and a place's next sibling the rest of it
-  pub next-chain : (p k : ℕ) → Hangs ps has p k → (k ≡ 0 → ⊥) → (siblings ps has p (getD ns k 0) ≡ from ps has (suc k) p) × Hangs ps has p (getD ns k 0)
-  next-chain p k g e = rw (next-is p k g e) (siblings-from ps rule has marks p (suc k) (omega arith))
+  -- from the first child of p to all children of p
+  pub chain-kids : Ruled ps → (f : ℕ) → length (kids ps has p) ≤ f → chainIn f ns (getD fs p 0) ≡ kids ps has p
+  chain-kids rule f h =
+      let k = from-kids ps rule has p in
+      let n = ap length k in
+      rw (s .first p) (chain-by (length ps - 1) 1 f refl (omega arith) (omega arith) ∙ k)

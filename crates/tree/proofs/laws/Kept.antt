@@ -1,6 +1,6 @@
 -- A table that keeps its links: its refusals test by test, and what is promised of it, by its answer.
 -- Assumes nothing.
-use mathlib.Core.Path.{_≡_, sym, _∙_}
+use mathlib.Core.Path.{_≡_, refl, sym, _∙_}
 use mathlib.Core.Bool.{true, false}
 use mathlib.Core.List.{List}
 use Prim.Native.Nat.{ℕ}
@@ -10,8 +10,10 @@ use Rattle.layout.specs.Refusals.{TABLE}
 use Rattle.layout.proofs.laws.Numbers.{zero-one}
 use Rattle.layout.proofs.laws.Reading.{pick-alike, picked}
 use Rattle.tree.specs.Table.{Table, tableAt}
-use Rattle.tree.specs.Links.{linksOk, linkAt, as-before, Linked, keptAt, Keeping}
-use Rattle.tree.proofs.laws.Links.{pair-first, pair-next, pair-both}
+use Rattle.tree.specs.Links.{linksOk, linkAt, relinked, as-before, Relinked, Linked, keptAt, Keeping}
+use Rattle.tree.proofs.laws.Below.{by-mark}
+use Rattle.tree.proofs.laws.Links.{pair-first, pair-next, pair-both, one-pair, links-ok}
+use Rattle.tree.proofs.laws.Sound.{Sound}
 
 module _ (t : Table) (fs ns : List ℕ) where
   pub kept-ok : linksOk t fs ns ≡ true → keptAt t fs ns ≡ tableAt t
@@ -63,3 +65,22 @@ module _ (t : Table) (fs ns : List ℕ) where
     -- refused: where the links are right, by the table; else with 11
     pub keeping-refused : {why : Told} → refused why ≡ keptAt t fs ns → (refused why ≡ tableAt t → Promise) → Unchanged → Keeping t fs ns (refused why) Promise Unchanged
     keeping-refused e p u = record { own = λ o. p (e ∙ kept-ok o); other = λ o. (e ∙ kept-other o, u) }
+
+-- two answers that the promises of a kept table allow are the same where those of the table are, and where nothing is changed
+pub one-keeping : {t : Table} {fs ns : List ℕ} {a b : Answer (Unit {0})} {P Q U W Same : Type 0} → Keeping t fs ns a P U → Keeping t fs ns b Q W
+    → (P → Q → Same) → (a ≡ b → U → W → Same) → Same
+one-keeping {t} {fs} {ns} x y p u =
+    by-mark (linksOk t fs ns)
+    (λ e. p (x .own e) (y .own e))
+    (λ e. u (x .other e .0 ∙ sym (y .other e .0)) (x .other e .1) (y .other e .1))
+
+-- ── the links after ──
+
+-- one pair is left
+pub one-relinked : {u : Table} {fs ns : List ℕ} {a : Answer (Unit {0})} {f n g m : List ℕ} → Sound u → Relinked u fs ns a f n → Relinked u fs ns a g m → (f ≡ g) × (n ≡ m)
+one-relinked s (relinked p) (relinked q) = one-pair (s .marks) p q
+one-relinked s as-before as-before = (refl, refl)
+
+-- with which the table that is left is a kept table again
+pub kept-again : {u : Table} {fs ns fs′ ns′ : List ℕ} {n : ℕ} → Sound u → Relinked u fs ns (got tt n) fs′ ns′ → linksOk u fs′ ns′ ≡ true
+kept-again s (relinked p) = links-ok s p

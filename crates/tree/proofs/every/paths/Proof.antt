@@ -27,34 +27,34 @@ returns : tie.Need-returns
 returns c =
     let w = c .before .before .before in
     let e = w .before .before .before .before in
-    let f = front (w .walk-ruled .ensures) in
+    let f = front (w .walk-made .ensures) in
     all-no-ends (asked e) _ _ (heard-of e) _ (f .0) (c .plain .ensures) (omega (arith, f .1, c .before .if1 .taken))
 
 paths-len-requires : tie.Need-paths-len-requires
 paths-len-requires c κs =
     let w = c .before .before .before .before .before in
     let s = whole (w .before .before .before .before) in
-    listing (s .kept) (s .marks) (front (w .walk-ruled .ensures) .0)
+    listing (s .kept) (s .marks) (front (w .walk-made .ensures) .0)
 
 returns-2 : tie.Need-returns-2
 returns-2 c =
     let w = c .before .before .before .before .before .before .before .before in
     let e = w .before .before .before .before in
-    let f = front (w .walk-ruled .ensures) in
+    let f = front (w .walk-made .ensures) in
     all-no-room (asked e) _ _ (heard-of e) _ (f .0) (omega (arith, f .1, c .before .before .before .before .before .before .if1 .left)) (c .plain2 .ensures) (omega (arith, c .before .before .paths-len .ensures, c .before .if2 .taken))
 
 put-paths-requires : tie.Need-put-paths-requires
 put-paths-requires c κs =
     let w = c .before .before .before .before .before .before .before .before .before .before .before .before in
     let s = whole (w .before .before .before .before) in
-    let f = front (w .walk-ruled .ensures) in
+    let f = front (w .walk-made .ensures) in
     (listing (s .kept) (s .marks) (f .0), (omega (arith, c .before .before .before .before .before .before .paths-len .ensures, c .before .before .before .before .before .if2 .left), omega (arith, f .1, c .before .before .before .before .before .before .before .before .before .before .if1 .left)))
 
 returns-3 : tie.Need-returns-3
 returns-3 c =
     let w = c .before .before .before .before .before .before .before .before .before .before .before .before .before .before .before .before .before in
     let e = w .before .before .before .before in
-    let f = front (w .walk-ruled .ensures) in
+    let f = front (w .walk-made .ensures) in
     let put = c .before .before .before .before .put-paths .ensures in
     all-done (asked e) _ _ (heard-of e) _ (f .0) (omega (arith, f .1, c .before .before .before .before .before .before .before .before .before .before .before .before .before .before .before .if1 .left)) (omega (arith, c .before .before .before .before .before .before .before .before .before .before .before .paths-len .ensures, c .before .before .before .before .before .before .before .before .before .before .if2 .left)) (put .0) (put .1)
 
@@ -75,15 +75,15 @@ paths-spec =
     returns
     (λ c. rows-long (whole (c .before .before .before .before .before .before .before)))
     (λ c. stops-long (whole (c .before .before .before .before .before .before .before .before)))
-    (λ c. front (c .before .before .before .before .walk-ruled .ensures) .2)
-    (λ c. sym (front (c .before .before .before .before .before .walk-ruled .ensures) .1))
+    (λ c. front (c .before .before .before .before .walk-made .ensures) .2)
+    (λ c. sym (front (c .before .before .before .before .before .walk-made .ensures) .1))
     paths-len-requires
     (λ c κs. search needs)
     returns-2
     (λ c. rows-long (whole (c .before .before .before .before .before .before .before .before .before .before .before .before)))
     (λ c. stops-long (whole (c .before .before .before .before .before .before .before .before .before .before .before .before .before)))
-    (λ c. front (c .before .before .before .before .before .before .before .before .before .walk-ruled .ensures) .2)
-    (λ c. sym (front (c .before .before .before .before .before .before .before .before .before .before .walk-ruled .ensures) .1))
+    (λ c. front (c .before .before .before .before .before .before .before .before .before .walk-made .ensures) .2)
+    (λ c. sym (front (c .before .before .before .before .before .before .before .before .before .before .walk-made .ensures) .1))
     put-paths-requires
     (λ c. search needs)
     (λ c. search needs)
