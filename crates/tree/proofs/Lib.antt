@@ -5,5 +5,7 @@ pub mod Tables
 pub mod Exact
 pub mod Scans
 pub mod Routes
+pub mod Onward
+pub mod Copied
 pub mod Trails
 pub mod Passing

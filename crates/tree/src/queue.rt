@@ -5,7 +5,7 @@ ghost use Rattle.layout.specs.Written.{Wrote, says, saysWritten};
 ghost use mathlib.Core.Path.{_≡_};
 ghost use Rattle.tree.specs.Facts.{Ruled, Marks};
 ghost use Rattle.tree.specs.Table.{table, live};
-ghost use Rattle.tree.specs.Links.{Linking};
+ghost use Rattle.tree.specs.Links.{Linking, Keeping};
 ghost use Rattle.tree.specs.Path.{Walked};
 ghost use Rattle.tree.specs.Says.{Walks, OrderSays};
 use crate::Checked;
@@ -113,6 +113,30 @@ pub fn walk_into(
         Checked::Whole(_) => {
             let mut queue = [0u16; 1024];
             let n = walk_made(&parents[..count], &marks[..count], &mut queue);
+            give(&queue[..n], places)
+        }
+        Checked::Refused(f) => Written::Refused(f),
+    }
+}
+
+// The same of a table that keeps its links.
+pub fn walk_linked(
+    handles: &[u32],
+    parents: &[u16],
+    ends: &[u32],
+    marks: &[u8],
+    count: usize,
+    names: &[u8],
+    first: &[u16],
+    next: &[u16],
+    places: &mut [u16],
+) -> Written
+    ensures { λ r. ⌜ Keeping (table (now (handles .entry)) (now (parents .entry)) (now (ends .entry)) (now (marks .entry)) count (now (names .entry))) (now (first .entry)) (now (next .entry)) (saysWritten r) (Walked (table (now (handles .entry)) (now (parents .entry)) (now (ends .entry)) (now (marks .entry)) count (now (names .entry))) (now (places .entry)) (saysWritten r) (now (places .exit))) (now (places .exit) ≡ now (places .entry)) ⌝ }
+{
+    match linking::check_links(handles, parents, ends, marks, count, names, first, next) {
+        Checked::Whole(_) => {
+            let mut queue = [0u16; 1024];
+            let n = walk_ruled(&parents[..count], &marks[..count], first, next, &mut queue);
             give(&queue[..n], places)
         }
         Checked::Refused(f) => Written::Refused(f),
