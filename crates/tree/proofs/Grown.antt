@@ -1,21 +1,22 @@
 -- The queue that begins with the root grows to the walk: what hangs under a list in order is in order, and at the end everything stands once.
 -- Assumes nothing.
 use mathlib.Core.Path.{_≡_, refl, sym, ap, _∙_}
-use mathlib.Core.Bool.{Bool, true, false, and-eq-true-iff}
+use mathlib.Core.Bool.{Bool, true, false, _&&_, and-eq-true-iff}
 use mathlib.Core.List.{List, [], _∷_, _++_}
 use Prim.Native.Nat.{ℕ, zero, suc, _+_, _-_, _≤_, _<_}
 use native.Mathlib.Nat.{not-suc-le-zero}
 use native.Mathlib.Omega.{arith}
-use borrow.Author.Tests.{eqb-true}
+use borrow.Author.Tests.{eqb-true, lt-ltb, le-ltb}
+use lib.Dec.{ltb}
 use lib.ListN.{length, getD, take}
 use Rattle.layout.specs.Answer.{pick}
 use Rattle.tree.specs.Facts.{Ruled, Marks}
 use Rattle.tree.specs.Table.{parent}
-use Rattle.tree.specs.Listed.{times, Every, none, more, Sorted, done, next}
+use Rattle.tree.specs.Listed.{times, Every, none, more, Sorted, done, next, Listed}
 use Rattle.tree.specs.Way.{way, Before, Walk}
 use Rattle.tree.specs.Kids.{hangs, kidsIn, kids}
 use Rattle.tree.proofs.laws.Counts.{equal, hit, miss, every-map, every-both, every-append, every-take}
-use Rattle.tree.proofs.laws.Below.{by-mark, below}
+use Rattle.tree.proofs.laws.Below.{by-mark, kids-root, kids-not, kids-once, below, smaller}
 use Rattle.tree.proofs.laws.Queued.{way-on, Growing, longer, closed, not-there, fallen}
 use Rattle.tree.proofs.laws.Ways.{Kid, way-root, before-root, before-kids, before-beside}
 
@@ -85,6 +86,17 @@ module _ (ps : List ℕ) (rule : Ruled ps) (has : ℕ → Bool) (marks : Marks p
   rising-kids : (p : ℕ) → Sorted _<_ (kids ps has p)
   unfolding kids
   rising-kids p = sorted-in _ (suc p) p (omega arith) (omega arith)
+
+  -- the live places with the parent p, each once, in rising order
+  pub kids-listed : (p : ℕ) → Listed (λ x. ltb 0 x && hangs ps has p x) _<_ (kids ps has p)
+  kids-listed p = record {
+    once = λ x. equal x 0
+        (λ e. rw e (kids-root ps has p ∙ sym (ap (λ (b : Bool). pick {A = ℕ} (b && hangs ps has p 0) 1 0) (le-ltb 0 0 (omega arith)))))
+        (λ e. by-mark (has x)
+        (λ m. let h : 0 < x = omega arith in rw (lt-ltb 0 x h, m) (kids-once ps has p x m (smaller ps rule has marks x h m) (marks .place x m)))
+        (λ m. rw (lt-ltb 0 x (omega arith), m) (kids-not ps has p x m)));
+    order = rising-kids p;
+  }
 
   sorted-kids : (p : ℕ) → Sorted (Before ps) (kids ps has p)
   sorted-kids p = sorted-by (λ x y k j h. before-beside ps rule h k j) (every-kid p) (rising-kids p)

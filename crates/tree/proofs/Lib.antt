@@ -9,3 +9,4 @@ pub mod Onward
 pub mod Copied
 pub mod Trails
 pub mod Passing
+pub mod Linked

@@ -57,12 +57,12 @@ module _ (ps : List ℕ) (has : ℕ → Bool) where
       (λ e. met x k (hangs ps has p k) (kidsIn m ps has (suc k) p) e (front m (suc k) p x (omega arith)) ∙ ap (λ (n : ℕ). pick (hangs ps has p n) 1 0) (sym e))
       (λ e. skip x k (hangs ps has p k) (kidsIn m ps has (suc k) p) e ∙ amid m (suc k) p x (omega arith) (omega arith))
 
-  kids-root : (p : ℕ) → times 0 (kids ps has p) ≡ 0
+  pub kids-root : (p : ℕ) → times 0 (kids ps has p) ≡ 0
   unfolding kids
   kids-root p = front _ (suc p) p 0 (omega arith)
 
   -- a place that is not marked stands there never
-  kids-not : (p x : ℕ) → has x ≡ false → times x (kids ps has p) ≡ 0
+  pub kids-not : (p x : ℕ) → has x ≡ false → times x (kids ps has p) ≡ 0
   unfolding kids
   kids-not p x e =
       by-less x (suc p) _ refl
@@ -72,7 +72,7 @@ module _ (ps : List ℕ) (has : ℕ → Bool) where
       (λ j. behind _ (suc p) p x j))
 
   -- a marked one once under its parent, and under no other
-  kids-once : (p x : ℕ) → has x ≡ true → parent ps x < x → x < length ps → times x (kids ps has p) ≡ pick (eqb (parent ps x) p) 1 0
+  pub kids-once : (p x : ℕ) → has x ≡ true → parent ps x < x → x < length ps → times x (kids ps has p) ≡ pick (eqb (parent ps x) p) 1 0
   unfolding kids
   kids-once p x e h l =
       by-less x (suc p) _ refl

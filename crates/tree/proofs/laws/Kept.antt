@@ -9,8 +9,8 @@ use Rattle.layout.specs.Answer.{Told, Answer, got, refused, bare}
 use Rattle.layout.specs.Refusals.{TABLE}
 use Rattle.layout.proofs.laws.Numbers.{zero-one}
 use Rattle.layout.proofs.laws.Reading.{pick-alike, picked}
-use Rattle.tree.specs.Table.{Table, tableAt}
-use Rattle.tree.specs.Links.{linksOk, linkAt, relinked, as-before, Relinked, Linked, keptAt, Keeping}
+use Rattle.tree.specs.Table.{Table, rows, flags, live, tableAt}
+use Rattle.tree.specs.Links.{Links, linksOk, linkAt, relinked, as-before, Relinked, Linked, keptAt, Keeping}
 use Rattle.tree.proofs.laws.Below.{by-mark}
 use Rattle.tree.proofs.laws.Links.{pair-first, pair-next, pair-both, one-pair, links-ok}
 use Rattle.tree.proofs.laws.Sound.{Sound}
@@ -76,11 +76,19 @@ one-keeping {t} {fs} {ns} x y p u =
 
 -- ── the links after ──
 
+pub relinked-got : {u : Table} {fs ns f m : List ℕ} {a : Answer (Unit {0})} {n : ℕ} → a ≡ got tt n → Relinked u fs ns a f m → Links (rows u) (live (flags u)) f m
+relinked-got e (relinked p) = p
+relinked-got e as-before = zero-one (cc)
+
+pub relinked-refused : {u : Table} {fs ns f m : List ℕ} {a : Answer (Unit {0})} {why : Told} → a ≡ refused why → Relinked u fs ns a f m → (f ≡ fs) × (m ≡ ns)
+relinked-refused e (relinked p) = zero-one (cc)
+relinked-refused e as-before = (refl, refl)
+
 -- one pair is left
 pub one-relinked : {u : Table} {fs ns : List ℕ} {a : Answer (Unit {0})} {f n g m : List ℕ} → Sound u → Relinked u fs ns a f n → Relinked u fs ns a g m → (f ≡ g) × (n ≡ m)
 one-relinked s (relinked p) (relinked q) = one-pair (s .marks) p q
 one-relinked s as-before as-before = (refl, refl)
 
 -- with which the table that is left is a kept table again
-pub kept-again : {u : Table} {fs ns fs′ ns′ : List ℕ} {n : ℕ} → Sound u → Relinked u fs ns (got tt n) fs′ ns′ → linksOk u fs′ ns′ ≡ true
-kept-again s (relinked p) = links-ok s p
+pub kept-again : {u : Table} {fs ns f m : List ℕ} {a : Answer (Unit {0})} {n : ℕ} → Sound u → a ≡ got tt n → Relinked u fs ns a f m → linksOk u f m ≡ true
+kept-again s e r = links-ok s (relinked-got e r)

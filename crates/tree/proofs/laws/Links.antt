@@ -125,6 +125,16 @@ past : {t : Table} → Sound t → (k : ℕ) → 1024 ≤ k → live (flags t) k
 past {t} s k h = by-mark (live (flags t) k) (λ e. absurd (let l = s .marks .place k e in let f = s .kept .ruling .few in omega arith)) (λ e. e)
 
 module _ {t : Table} (s : Sound t) {fs ns : List ℕ} where
+  -- it is enough to say what stands at each place that the lists have
+  linking-within : length fs ≡ 1024 → length ns ≡ 1024 → ((p : ℕ) → p < 1024 → getD fs p 0 ≡ firstAt (rows t) (live (flags t)) 1 p)
+      → ((j : ℕ) → j < 1024 → getD ns j 0 ≡ nextAt (rows t) (live (flags t)) 1 j) → Linking (rows t) (live (flags t)) 1 fs ns
+  linking-within n m f g = record {
+    firsts = n;
+    nexts = m;
+    first = λ p. by-less p 1024 _ refl (f p) (λ h. List·getD-eq-default fs 0 (omega arith) ∙ sym (first-ended (s .marks) p (past s p h)));
+    next = λ j. by-less j 1024 _ refl (g j) (λ h. List·getD-eq-default ns 0 (omega arith) ∙ sym (next-ended (rows t) (live (flags t)) 1 j (past s j h)));
+  }
+
   pub ok-linking : linksOk t fs ns ≡ true → Linking (rows t) (live (flags t)) 1 fs ns
   unfolding linksOk
   ok-linking e =
@@ -132,16 +142,9 @@ module _ {t : Table} (s : Sound t) {fs ns : List ℕ} where
       let a = and-eq-true-iff (pairOk fs ns && agrees 0 (firstAt (rows t) has 1) fs) (agrees 0 (nextAt (rows t) has 1) ns) .0 e in
       let b = and-eq-true-iff (pairOk fs ns) (agrees 0 (firstAt (rows t) has 1) fs) .0 (a .0) in
       let n = pair-long fs ns (b .0) in
-      record {
-        firsts = n .0;
-        nexts = n .1;
-        first = λ p. by-less p 1024 _ refl
-            (λ h. rw zero-add at (agrees-at 0 (firstAt (rows t) has 1) fs (b .1) p (omega arith)))
-            (λ h. List·getD-eq-default fs 0 (omega arith) ∙ sym (first-ended (s .marks) p (past s p h)));
-        next = λ j. by-less j 1024 _ refl
-            (λ h. rw zero-add at (agrees-at 0 (nextAt (rows t) has 1) ns (a .1) j (omega arith)))
-            (λ h. List·getD-eq-default ns 0 (omega arith) ∙ sym (next-ended (rows t) has 1 j (past s j h)));
-      }
+      linking-within (n .0) (n .1)
+      (λ p h. rw zero-add at (agrees-at 0 (firstAt (rows t) has 1) fs (b .1) p (omega arith)))
+      (λ j h. rw zero-add at (agrees-at 0 (nextAt (rows t) has 1) ns (a .1) j (omega arith)))
 
   -- the test holds exactly for the table's links
   pub ok-links : linksOk t fs ns ≡ true → Links (rows t) (live (flags t)) fs ns
@@ -157,3 +160,31 @@ module _ {t : Table} (s : Sound t) {fs ns : List ℕ} where
         agrees-all 0 (firstAt (rows t) has 1) fs (λ i h. rw zero-add (a .first i)),
         agrees-all 0 (nextAt (rows t) has 1) ns (λ i h. rw zero-add (a .next i)),
       )
+
+-- ── there is a pair ──
+
+-- m entries, those of the places from k on
+placed : ℕ → ℕ → (ℕ → ℕ) → List ℕ
+placed k zero f = []
+placed k (suc m) f = f k ∷ placed (suc k) m f
+
+placed-long : (k m : ℕ) (f : ℕ → ℕ) → length (placed k m f) ≡ m
+unfolding placed
+placed-long k zero f = refl
+placed-long k (suc m) f = ap suc (placed-long (suc k) m f)
+
+placed-at : (k m : ℕ) (f : ℕ → ℕ) (i : ℕ) → i < m → getD (placed k m f) i 0 ≡ f (k + i)
+unfolding placed
+placed-at k zero f i h = absurd (not-suc-le-zero h)
+placed-at k (suc m) f zero h = rw add-zero refl
+placed-at k (suc m) f (suc i) h = rw (add-suc, ← suc-add) (placed-at (suc k) m f i (omega arith))
+
+pub some-pair : {t : Table} → Sound t → (fs : List ℕ) × (ns : List ℕ) × Links (rows t) (live (flags t)) fs ns
+some-pair {t} s =
+    let first = firstAt (rows t) (live (flags t)) 1 in
+    let next = nextAt (rows t) (live (flags t)) 1 in (
+      placed 0 1024 first,
+      placed 0 1024 next,
+      linking-links (s .marks) (linking-within s (placed-long 0 1024 first) (placed-long 0 1024 next)
+          (λ p h. rw zero-add at (placed-at 0 1024 first p h)) (λ j h. rw zero-add at (placed-at 0 1024 next j h))),
+    )

@@ -2,14 +2,14 @@
 -- from the root to it holds the first one, so nothing twice; and once every turn is taken just as often: exactly what the first place is above, each once.
 -- Assumes nothing.
 use mathlib.Core.Path.{_≡_, refl, sym, ap, _∙_}
-use mathlib.Core.Bool.{Bool, true, false}
+use mathlib.Core.Bool.{Bool, true, false, _&&_}
 use mathlib.Core.List.{List, [], _∷_, _++_, append-nil}
 use Prim.Native.Nat.{ℕ, zero, suc, _+_, _≤_, _<_}
 use native.Mathlib.Nat.{not-suc-le-zero}
 use native.Mathlib.Numerals.{add-one}
 use native.Mathlib.Omega.{arith}
-use borrow.Author.Tests.{eq-eqb, ne-eqb}
-use lib.Dec.{eqb}
+use borrow.Author.Tests.{eq-eqb, ne-eqb, lt-ltb, le-ltb}
+use lib.Dec.{eqb, ltb}
 use lib.ListN.{length, getD, take, drop, set, length-append, length-drop, List·getD-append}
 use lib.Seq.{sets, sets-eq, take-suc, take-all, take-append-le, take-append-seam, drop-append-add, drop-drop}
 use Rattle.layout.specs.Answer.{pick}
@@ -169,6 +169,19 @@ module _ (ps : List ℕ) (rule : Ruled ps) (has : ℕ → Bool) (marks : Marks p
 
   pub fallen : (x : ℕ) → has x ≡ true → times x q ≡ times place (way ps x)
   fallen x m = fallen-by (suc x) x (omega arith) m
+
+-- so a queue of which every turn is taken holds exactly the live places that have the place on their way, each once
+pub fallen-once : (ps : List ℕ) (rule : Ruled ps) (has : ℕ → Bool) (marks : Marks ps has) (place : ℕ) → has place ≡ true → {i : ℕ} {q : List ℕ} → Growing ps has place i q → length q ≤ i
+    → (x : ℕ) → times x q ≡ pick (has x && ltb 0 (times place (way ps x))) 1 0
+fallen-once ps rule has marks place living {i} {q} g h x =
+    by-mark (has x)
+    (λ m. let a = fallen ps rule has marks place q (closed ps rule has marks place living g h) x m in
+    let b = way-few ps rule place x (marks .place x m) in
+    rw m (a ∙ one-or-none (times place (way ps x)) b))
+    (λ m. rw m (not-there ps rule has marks place living g x m))
+  where
+    one-or-none : (n : ℕ) → n ≤ 1 → n ≡ pick {A = ℕ} (ltb 0 n) 1 0
+    one-or-none n l = equal n 0 (λ e. e ∙ sym (ap (λ (b : Bool). pick {A = ℕ} b 1 0) (le-ltb 0 n (omega arith)))) (λ e. let o : n ≡ 1 = omega arith in o ∙ sym (ap (λ (b : Bool). pick {A = ℕ} b 1 0) (lt-ltb 0 n (omega arith))))
 
 -- ── the queue in memory ──
 
