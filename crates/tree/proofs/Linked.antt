@@ -28,11 +28,11 @@ use Rattle.tree.proofs.Grown.{kids-listed}
 use Rattle.tree.proofs.laws.Below.{by-mark, below, below-root, below-not, below-times}
 use Rattle.tree.proofs.laws.Chains.{chain-kids}
 use Rattle.tree.proofs.laws.Counts.{equal, hit, miss, same-size}
-use Rattle.tree.proofs.laws.Kept.{kept-other, link-both, one-keeping, relinked-got, relinked-refused}
+use Rattle.tree.proofs.laws.Kept.{kept-other, link-both, link-got, one-keeping, relinked-got, relinked-refused}
 use Rattle.tree.proofs.laws.Links.{links-linking, one-pair, links-ok, ok-links}
 use Rattle.tree.proofs.laws.Ruled.{rule-ok}
 use Rattle.tree.proofs.laws.Sound.{sound, accepted}
-use Rattle.tree.proofs.laws.Unique.{one-walked, one-paths}
+use Rattle.tree.proofs.laws.Unique.{tells-checked, one-walked, one-paths}
 
 -- ── the one pair ──
 
@@ -94,6 +94,16 @@ module _ (t : Table) (r : Rule t) {fs ns : List ℕ} (no : Links (rows t) (live 
   wrong-checked x e = e ∙ kept-other t fs ns wrong
 
 -- ── one answer each ──
+
+pub one-linked : (t : Table) {fs ns f g m o : List ℕ} (x y : Checked) → Linked t fs ns (saysChecked x) f m → Linked t fs ns (saysChecked y) g o → (x ≡ y) × (f ≡ g) × (m ≡ o)
+one-linked t {fs} {ns} {f} {g} {m} {o} x y p q = let left = go (linkAt t fs ns) refl in (tells-checked x y (p .answers ∙ sym (q .answers)), left .0, left .1)
+  where
+    go : (a : Answer (Unit {0})) → linkAt t fs ns ≡ a → (f ≡ g) × (m ≡ o)
+    go (got u n) e = one-pair (accepted t (link-got t fs ns (sym e)) .marks) (relinked-got (p .answers ∙ e) (p .left)) (relinked-got (q .answers ∙ e) (q .left))
+    go (refused why) e =
+        let a = relinked-refused (p .answers ∙ e) (p .left) in
+        let b = relinked-refused (q .answers ∙ e) (q .left) in
+        (a .0 ∙ sym (b .0), a .1 ∙ sym (b .1))
 
 pub one-walk-linked : (t : Table) {fs ns old new new′ : List ℕ} (x y : Written) → Keeping t fs ns (saysWritten x) (Walked t old (saysWritten x) new) (new ≡ old)
     → Keeping t fs ns (saysWritten y) (Walked t old (saysWritten y) new′) (new′ ≡ old) → (x ≡ y) × (new ≡ new′)

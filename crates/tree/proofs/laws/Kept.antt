@@ -10,7 +10,7 @@ use Rattle.layout.specs.Refusals.{TABLE}
 use Rattle.layout.proofs.laws.Numbers.{zero-one}
 use Rattle.layout.proofs.laws.Reading.{pick-alike, picked}
 use Rattle.tree.specs.Table.{Table, rows, flags, live, tableAt}
-use Rattle.tree.specs.Links.{Links, linksOk, linkAt, relinked, as-before, Relinked, Linked, keptAt, Keeping}
+use Rattle.tree.specs.Links.{Links, pairOk, linksOk, linkAt, relinked, as-before, Relinked, Linked, keptAt, Keeping}
 use Rattle.tree.proofs.laws.Below.{by-mark}
 use Rattle.tree.proofs.laws.Links.{pair-first, pair-next, pair-both, one-pair, links-ok}
 use Rattle.tree.proofs.laws.Sound.{Sound}
@@ -48,6 +48,10 @@ module _ (t : Table) (fs ns : List ℕ) where
     pub link-both : length ns ≡ 1024 → linkAt t fs ns ≡ tableAt t
     unfolding linkAt
     link-both e = rw (pair-both fs ns f e)
+
+  pub link-got : {n : ℕ} → got tt n ≡ linkAt t fs ns → got tt n ≡ tableAt t
+  unfolding linkAt
+  link-got e = sym (picked (pairOk fs ns) (tableAt t) (bare TABLE) (sym e) .1)
 
   pub linked-refused : {why : Told} → refused why ≡ linkAt t fs ns → Linked t fs ns (refused why) fs ns
   linked-refused e = record { answers = e; left = as-before }

@@ -22,129 +22,78 @@ loop-holds c = (c .pre .1 .1, c .pre .0 .some, omega arith)
 sub-k : tie.Need-sub-k Inv-loop μ-loop
 sub-k c = omega (arith, c .loop-test .taken)
 
+-- in a turn: the place before k is one, its parent is smaller, and every list has them
+in-turn : (c : tie.In-loop Inv-loop μ-loop) →
+    let b = c .before .before in
+    let i = c .before .loop in
+    (getD (b .args .parents .now) (i .k - 1) 0 < i .k - 1) × (i .k ≤ length (b .args .parents .now)) × (length (b .args .parents .now) ≤ 1024)
+    × (length (b .args .marks .now) ≡ length (b .args .parents .now)) × (length (i .first) ≡ 1024) × (length (i .next) ≡ 1024)
+in-turn c =
+    let b = c .before .before in
+    let i = c .before .loop in
+    let more = c .loop-test .taken in
+    (b .pre .0 .smaller (i .k - 1) (omega arith) (omega (arith, i .inv .2)), i .inv .2, b .pre .0 .few, b .pre .1 .0, i .inv .0 .firsts, i .inv .0 .nexts)
+
 shared-slice-read-if1 : tie.Need-shared-slice-read-if1 Inv-loop μ-loop
-shared-slice-read-if1 c =
-    let a = c .before .before .before in
-    let i = c .before .before .loop in
-    let more = c .before .loop-test .taken in
-    let up = a .pre .0 .smaller (i .k - 1) (omega arith) (omega (arith, i .inv .2)) in
-    omega (arith, a .pre .0 .few, a .pre .1 .0, i .inv .2, i .inv .0 .firsts, i .inv .0 .nexts)
+shared-slice-read-if1 c = let t = in-turn (c .before) in omega (arith, c .before .loop-test .taken)
 
 mul-p : tie.Need-mul-p Inv-loop μ-loop
-mul-p c =
-    let a = c .before .before .before .before in
-    let i = c .before .before .before .loop in
-    let more = c .before .before .loop-test .taken in
-    let up = a .pre .0 .smaller (i .k - 1) (omega arith) (omega (arith, i .inv .2)) in
-    omega (arith, a .pre .0 .few, a .pre .1 .0, i .inv .2, i .inv .0 .firsts, i .inv .0 .nexts)
+mul-p c = let t = in-turn (c .before .before) in omega (arith, c .before .before .loop-test .taken)
 
 shared-slice-read-p : tie.Need-shared-slice-read-p Inv-loop μ-loop
-shared-slice-read-p c =
-    let a = c .before .before .before .before .before in
-    let i = c .before .before .before .before .loop in
-    let more = c .before .before .before .loop-test .taken in
-    let up = a .pre .0 .smaller (i .k - 1) (omega arith) (omega (arith, i .inv .2)) in
-    omega (arith, a .pre .0 .few, a .pre .1 .0, i .inv .2, i .inv .0 .firsts, i .inv .0 .nexts)
+shared-slice-read-p c = let t = in-turn (c .before .before .before) in omega (arith, c .before .before .before .loop-test .taken)
 
 cast-p : tie.Need-cast-p Inv-loop μ-loop
-cast-p c =
-    let a = c .before .before .before .before .before in
-    let i = c .before .before .before .before .loop in
-    let more = c .before .before .before .loop-test .taken in
-    let up = a .pre .0 .smaller (i .k - 1) (omega arith) (omega (arith, i .inv .2)) in
-    omega (arith, a .pre .0 .few, a .pre .1 .0, i .inv .2, i .inv .0 .firsts, i .inv .0 .nexts)
+cast-p c = let t = in-turn (c .before .before .before) in omega (arith, c .before .before .before .loop-test .taken)
 
 mul-next : tie.Need-mul-next Inv-loop μ-loop
-mul-next c =
-    let a = c .before .before .before .before .before in
-    let i = c .before .before .before .before .loop in
-    let more = c .before .before .before .loop-test .taken in
-    let up = a .pre .0 .smaller (i .k - 1) (omega arith) (omega (arith, i .inv .2)) in
-    omega (arith, a .pre .0 .few, a .pre .1 .0, i .inv .2, i .inv .0 .firsts, i .inv .0 .nexts)
+mul-next c = let t = in-turn (c .before .before .before) in omega (arith, c .before .before .before .loop-test .taken)
 
 slice-read-next : tie.Need-slice-read-next Inv-loop μ-loop
-slice-read-next c =
-    let a = c .before .before .before .before .before .before in
-    let i = c .before .before .before .before .before .loop in
-    let more = c .before .before .before .before .loop-test .taken in
-    let up = a .pre .0 .smaller (i .k - 1) (omega arith) (omega (arith, i .inv .2)) in
-    omega (arith, a .pre .0 .few, a .pre .1 .0, i .inv .2, i .inv .0 .firsts, i .inv .0 .nexts)
+slice-read-next c = let t = in-turn (c .before .before .before .before) in omega (arith, c .before .before .before .before .loop-test .taken)
 
 mul-next-2 : tie.Need-mul-next-2 Inv-loop μ-loop
-mul-next-2 c =
-    let a = c .before .before .before .before .before .before in
-    let i = c .before .before .before .before .before .loop in
-    let more = c .before .before .before .before .loop-test .taken in
-    let up = a .pre .0 .smaller (i .k - 1) (omega arith) (omega (arith, i .inv .2)) in
-    omega (arith, a .pre .0 .few, a .pre .1 .0, i .inv .2, i .inv .0 .firsts, i .inv .0 .nexts)
+mul-next-2 c = let t = in-turn (c .before .before .before .before) in omega (arith, c .before .before .before .before .loop-test .taken)
 
 slice-write-next : tie.Need-slice-write-next Inv-loop μ-loop
-slice-write-next c =
-    let a = c .before .before .before .before .before .before in
-    let i = c .before .before .before .before .before .loop in
-    let more = c .before .before .before .before .loop-test .taken in
-    let up = a .pre .0 .smaller (i .k - 1) (omega arith) (omega (arith, i .inv .2)) in
-    omega (arith, a .pre .0 .few, a .pre .1 .0, i .inv .2, i .inv .0 .firsts, i .inv .0 .nexts)
+slice-write-next c = let t = in-turn (c .before .before .before .before) in omega (arith, c .before .before .before .before .loop-test .taken)
 
 cast-first : tie.Need-cast-first Inv-loop μ-loop
-cast-first c =
-    let a = c .before .before .before .before .before .before in
-    let i = c .before .before .before .before .before .loop in
-    let more = c .before .before .before .before .loop-test .taken in
-    let up = a .pre .0 .smaller (i .k - 1) (omega arith) (omega (arith, i .inv .2)) in
-    omega (arith, a .pre .0 .few, a .pre .1 .0, i .inv .2, i .inv .0 .firsts, i .inv .0 .nexts)
+cast-first c = let t = in-turn (c .before .before .before .before) in omega (arith, c .before .before .before .before .loop-test .taken)
 
 mul-first : tie.Need-mul-first Inv-loop μ-loop
-mul-first c =
-    let a = c .before .before .before .before .before .before in
-    let i = c .before .before .before .before .before .loop in
-    let more = c .before .before .before .before .loop-test .taken in
-    let up = a .pre .0 .smaller (i .k - 1) (omega arith) (omega (arith, i .inv .2)) in
-    omega (arith, a .pre .0 .few, a .pre .1 .0, i .inv .2, i .inv .0 .firsts, i .inv .0 .nexts)
+mul-first c = let t = in-turn (c .before .before .before .before) in omega (arith, c .before .before .before .before .loop-test .taken)
 
 slice-write-first : tie.Need-slice-write-first Inv-loop μ-loop
-slice-write-first c =
-    let a = c .before .before .before .before .before .before in
-    let i = c .before .before .before .before .before .loop in
-    let more = c .before .before .before .before .loop-test .taken in
-    let up = a .pre .0 .smaller (i .k - 1) (omega arith) (omega (arith, i .inv .2)) in
-    omega (arith, a .pre .0 .few, a .pre .1 .0, i .inv .2, i .inv .0 .firsts, i .inv .0 .nexts)
+slice-write-first c = let t = in-turn (c .before .before .before .before) in omega (arith, c .before .before .before .before .loop-test .taken)
 
 loop-less : tie.Need-loop-less Inv-loop μ-loop
-loop-less c =
-    let a = c .before .before .before .before .before .before in
-    let i = c .before .before .before .before .before .loop in
-    let more = c .before .before .before .before .loop-test .taken in
-    let up = a .pre .0 .smaller (i .k - 1) (omega arith) (omega (arith, i .inv .2)) in
-    omega (arith, a .pre .0 .few, a .pre .1 .0, i .inv .2, i .inv .0 .firsts, i .inv .0 .nexts)
+loop-less c = let t = in-turn (c .before .before .before .before) in omega (arith, c .before .before .before .before .loop-test .taken)
 
 loop-again : tie.Need-loop-again Inv-loop μ-loop
 loop-again c =
-    let a = c .before .before .before .before .before .before in
-    let i = c .before .before .before .before .before .loop in
-    let more = c .before .before .before .before .loop-test .taken in
-    let up = a .pre .0 .smaller (i .k - 1) (omega arith) (omega (arith, i .inv .2)) in
+    let e = c .before .before .before .before in
+    let b = e .before .before in
+    let i = e .before .loop in
+    let t = in-turn e in
+    let more = e .loop-test .taken in
     let back : i .k ≡ suc (i .k - 1) = omega arith in
-    let before = subst (λ n. Linking (a .args .parents .now) (live (a .args .marks .now)) n (i .first) (i .next)) back (i .inv .0) in
-    (link-hit _ _ (i .k - 1) (omega (arith, i .inv .2)) (a .pre .0 .few) before (lt-ltb 0 (getD (a .args .marks .now) (i .k - 1) 0) (omega (arith, c .before .before .if1 .taken))) (omega (arith, i .inv .2)), omega arith, omega (arith, i .inv .2))
+    let before = subst (λ n. Linking (b .args .parents .now) (live (b .args .marks .now)) n (i .first) (i .next)) back (i .inv .0) in
+    (link-hit _ _ (i .k - 1) (omega arith) (t .2) before (lt-ltb 0 (getD (b .args .marks .now) (i .k - 1) 0) (omega (arith, c .before .before .if1 .taken))) (omega arith), omega arith, omega arith)
 
 loop-less-2 : tie.Need-loop-less-2 Inv-loop μ-loop
-loop-less-2 c =
-    let a = c .before .before .before .before in
-    let i = c .before .before .before .loop in
-    let more = c .before .before .loop-test .taken in
-    let up = a .pre .0 .smaller (i .k - 1) (omega arith) (omega (arith, i .inv .2)) in
-    omega (arith, a .pre .0 .few, a .pre .1 .0, i .inv .2, i .inv .0 .firsts, i .inv .0 .nexts)
+loop-less-2 c = let t = in-turn (c .before .before) in omega (arith, c .before .before .loop-test .taken)
 
 loop-again-2 : tie.Need-loop-again-2 Inv-loop μ-loop
 loop-again-2 c =
-    let a = c .before .before .before .before in
-    let i = c .before .before .before .loop in
-    let more = c .before .before .loop-test .taken in
-    let up = a .pre .0 .smaller (i .k - 1) (omega arith) (omega (arith, i .inv .2)) in
+    let e = c .before .before in
+    let b = e .before .before in
+    let i = e .before .loop in
+    let t = in-turn e in
+    let more = e .loop-test .taken in
     let back : i .k ≡ suc (i .k - 1) = omega arith in
-    let before = subst (λ n. Linking (a .args .parents .now) (live (a .args .marks .now)) n (i .first) (i .next)) back (i .inv .0) in
-    (link-skip _ _ (i .k - 1) (omega (arith, i .inv .2)) (a .pre .0 .few) before (le-ltb 0 (getD (a .args .marks .now) (i .k - 1) 0) (omega (arith, c .if1 .left))), omega arith, omega (arith, i .inv .2))
+    let before = subst (λ n. Linking (b .args .parents .now) (live (b .args .marks .now)) n (i .first) (i .next)) back (i .inv .0) in
+    (link-skip _ _ (i .k - 1) (omega arith) (t .2) before (le-ltb 0 (getD (b .args .marks .now) (i .k - 1) 0) (omega (arith, c .if1 .left))), omega arith, omega arith)
 
 same-length : tie.Need-same-length Inv-loop μ-loop
 same-length c = c .before .loop .inv .0 .firsts ∙ sym (c .before .before .pre .1 .1 .firsts)
