@@ -12,10 +12,11 @@ use lib.ListN.{length, getD, drop, set, replicate, length-replicate, getD-replic
 use lib.Seq.{getD-set-same, getD-set-other, drop-cons}
 use Rattle.layout.specs.Answer.{pick}
 use Rattle.tree.specs.Table.{parent}
-use Rattle.tree.specs.Links.{firstOf, from, Linking, agrees}
+use Rattle.tree.specs.Links.{firstOf, from, nextAt, Linking, agrees}
 use Rattle.tree.proofs.laws.Below.{by-less}
 use Rattle.tree.proofs.laws.Chains.{from-hit, from-miss, from-none}
 use Rattle.tree.proofs.laws.Counts.{equal}
+use Rattle.tree.proofs.laws.Links.{next-ended}
 
 module _ (ps : List ℕ) (has : ℕ → Bool) (k : ℕ) (l : k < length ps) where
   -- of any other place nothing is new
@@ -33,13 +34,9 @@ module _ (ps : List ℕ) (has : ℕ → Bool) (k : ℕ) (l : k < length ps) wher
       nexts = s .nexts;
       first = λ p. s .first p ∙ ap firstOf (sym (from-miss ps has k l p (rw m)));
       next = λ j. equal j k
-          (λ e. s .next j ∙ rw (e, m, lt-leb (suc k) k (omega arith)) (either (leb k k)))
+          (λ e. let n : has j ≡ false = rw e m in s .next j ∙ next-ended ps has (suc k) j n ∙ sym (next-ended ps has k j n))
           (λ e. s .next j ∙ ap (λ (b : Bool). pick {A = ℕ} (b && has j) (firstOf (from ps has (suc j) (parent ps j))) 0) (sym (same-leb j e)));
     }
-      where
-        either : (b : Bool) → 0 ≡ pick {A = ℕ} (b && false) (firstOf (from ps has (suc k) (parent ps k))) 0
-        either true = refl
-        either false = refl
 
     pub link-hit : has k ≡ true → parent ps k < length ps → Linking ps has k (set fs (parent ps k) k) (set ns k (getD fs (parent ps k) 0))
     link-hit m up = record {
@@ -63,13 +60,9 @@ unlinked ps has place f n fs ns = record {
   next = λ j. ns j ∙ sym (behind j (has j) refl);
 }
   where
-    behind : (j : ℕ) (b : Bool) → has j ≡ b → pick {A = ℕ} (leb (length ps) j && has j) (firstOf (from ps has (suc j) (parent ps j))) 0 ≡ 0
+    behind : (j : ℕ) (b : Bool) → has j ≡ b → nextAt ps has (length ps) j ≡ 0
     behind j true e = rw (lt-leb (length ps) j (place j e))
-    behind j false e = rw e (go (leb (length ps) j))
-      where
-        go : (b : Bool) → pick {A = ℕ} (b && false) (firstOf (from ps has (suc j) (parent ps j))) 0 ≡ 0
-        go true = refl
-        go false = refl
+    behind j false e = next-ended ps has (length ps) j e
 
 -- so in an array that was made of 0
 pub zeros : (n k : ℕ) → getD {A = ℕ} (replicate n 0) k 0 ≡ 0

@@ -28,7 +28,7 @@ module _ (ps : List ℕ) (has : ℕ → Bool) where
   next-root : nextAt ps has 1 0 ≡ 0
   next-root = ap (λ (b : Bool). pick {A = ℕ} (b && has 0) (firstOf (from ps has 1 (parent ps 0))) 0) (lt-leb 1 0 (omega arith))
 
-  next-ended : (k j : ℕ) → has j ≡ false → nextAt ps has k j ≡ 0
+  pub next-ended : (k j : ℕ) → has j ≡ false → nextAt ps has k j ≡ 0
   next-ended k j e = rw e (go (leb k j))
     where
       go : (b : Bool) → pick {A = ℕ} (b && false) (firstOf (from ps has (suc j) (parent ps j))) 0 ≡ 0

@@ -85,6 +85,18 @@ times-at [] j h = absurd (not-suc-le-zero h)
 times-at (x ∷ q) zero h = let a = hit x x q refl in omega arith
 times-at (x ∷ q) (suc j) h = let r = times-at q j (omega arith) in omega arith
 
+-- how often what begins with a place and goes on with what hangs under a list holds the root, and another live place
+module _ (ps : List ℕ) (rule : Ruled ps) (has : ℕ → Bool) (marks : Marks ps has) (place : ℕ) (l : List ℕ) where
+  holds-root : times 0 (place ∷ below ps has l) ≡ times place (way ps 0)
+  holds-root = let b = below-root ps rule has marks l in let d = flip 0 place in let w = way-first ps rule place in omega arith
+
+  holds-other : (x : ℕ) → 0 < x → has x ≡ true → times x (place ∷ below ps has l) + times place (way ps (parent ps x)) ≡ times (parent ps x) l + times place (way ps x)
+  holds-other x s m =
+      let b = below-times ps rule has marks x l s m in
+      let d = flip x place in
+      let w = way-on ps rule place x s (marks .place x m) in
+      omega arith
+
 module _ (ps : List ℕ) (rule : Ruled ps) (has : ℕ → Bool) (marks : Marks ps has) (place : ℕ) (living : has place ≡ true) where
   module _ {i : ℕ} {q : List ℕ} (g : Growing ps has place i q) where
     count-grown : (x : ℕ) → times x q ≡ times x (place ∷ below ps has (take i q))
@@ -100,19 +112,14 @@ module _ (ps : List ℕ) (rule : Ruled ps) (has : ℕ → Bool) (marks : Marks p
     most-by : (f x : ℕ) → x < f → has x ≡ true → times x q ≤ times place (way ps x)
     most-by zero x h m = absurd (not-suc-le-zero h)
     most-by (suc f) x h m =
-        let a = count-grown x in
-        let d = flip x place in
         equal x 0
-        (λ e. let b : times x (below ps has (take i q)) ≡ 0 = rw e (below-root ps rule has marks (take i q)) in
-        let w : times place (way ps x) ≡ times place (x ∷ []) = rw e (way-first ps rule place) in
-        omega arith)
+        (λ e. rw e (let a = count-grown 0 in let b = holds-root ps rule has marks place (take i q) in omega arith))
         (λ e. let s : 0 < x = omega arith in
-        let l = marks .place x m in
-        let r = rule .smaller x s l in
-        let b = below-times ps rule has marks x (take i q) s m in
+        let a = count-grown x in
+        let r = rule .smaller x s (marks .place x m) in
+        let b = holds-other ps rule has marks place (take i q) x s m in
         let t = times-take (parent ps x) i q in
         let o = most-by f (parent ps x) (omega arith) (marks .up x s m) in
-        let w = way-on ps rule place x s l in
         omega arith)
 
     -- no place stands twice
@@ -153,18 +160,13 @@ module _ (ps : List ℕ) (rule : Ruled ps) (has : ℕ → Bool) (marks : Marks p
   fallen-by : (f x : ℕ) → x < f → has x ≡ true → times x q ≡ times place (way ps x)
   fallen-by zero x h m = absurd (not-suc-le-zero h)
   fallen-by (suc f) x h m =
-      let a : times x q ≡ times x (place ∷ below ps has q) = ap (times x) closed in
-      let d = flip x place in
       equal x 0
-      (λ e. let b : times x (below ps has q) ≡ 0 = rw e (below-root ps rule has marks q) in
-      let w : times place (way ps x) ≡ times place (x ∷ []) = rw e (way-first ps rule place) in
-      omega arith)
+      (λ e. rw e (ap (times 0) closed ∙ holds-root ps rule has marks place q))
       (λ e. let s : 0 < x = omega arith in
-      let l = marks .place x m in
-      let r = rule .smaller x s l in
-      let b = below-times ps rule has marks x q s m in
-      let i = fallen-by f (parent ps x) (omega arith) (marks .up x s m) in
-      let w = way-on ps rule place x s l in
+      let a : times x q ≡ times x (place ∷ below ps has q) = ap (times x) closed in
+      let r = rule .smaller x s (marks .place x m) in
+      let b = holds-other ps rule has marks place q x s m in
+      let o = fallen-by f (parent ps x) (omega arith) (marks .up x s m) in
       omega arith)
 
   pub fallen : (x : ℕ) → has x ≡ true → times x q ≡ times place (way ps x)
