@@ -13,7 +13,6 @@ use Rattle.layout.specs.Answer.{Told, Answer, got, refused, bare, pick}
 use Rattle.layout.specs.Refusals.{TABLE}
 use Rattle.layout.specs.Written.{saysWritten}
 use Rattle.layout.specs.declared.Written.{Written}
-use Rattle.layout.proofs.laws.Determined.{tells-written}
 use Rattle.tree.specs.Facts.{Ruled, Marks}
 use Rattle.tree.specs.Kids.{hangs, kidsIn, kids}
 use Rattle.tree.specs.Links.{Links, chain, linksOk, linkAt, Linked, keptAt, Keeping}
@@ -28,11 +27,11 @@ use Rattle.tree.proofs.Grown.{kids-listed}
 use Rattle.tree.proofs.laws.Below.{by-mark, below, below-root, below-not, below-times}
 use Rattle.tree.proofs.laws.Chains.{chain-kids}
 use Rattle.tree.proofs.laws.Counts.{equal, hit, miss, same-size}
-use Rattle.tree.proofs.laws.Kept.{kept-other, link-both, link-got, one-keeping, relinked-got, relinked-refused}
+use Rattle.tree.proofs.laws.Kept.{kept-other, link-both, relinked-got, relinked-refused}
 use Rattle.tree.proofs.laws.Links.{links-linking, one-pair, links-ok, ok-links}
 use Rattle.tree.proofs.laws.Ruled.{rule-ok}
 use Rattle.tree.proofs.laws.Sound.{sound, accepted}
-use Rattle.tree.proofs.laws.Unique.{tells-checked, one-walked, one-paths}
+use Rattle.tree.proofs.laws.Unique.{one-walked, one-paths}
 
 -- ── the one pair ──
 
@@ -92,28 +91,6 @@ module _ (t : Table) (r : Rule t) {fs ns : List ℕ} (no : Links (rows t) (live 
 
   pub wrong-checked : (x : Checked) → saysChecked x ≡ keptAt t fs ns → saysChecked x ≡ refused (bare TABLE)
   wrong-checked x e = e ∙ kept-other t fs ns wrong
-
--- ── one answer each ──
-
-pub one-linked : (t : Table) {fs ns f g m o : List ℕ} (x y : Checked) → Linked t fs ns (saysChecked x) f m → Linked t fs ns (saysChecked y) g o → (x ≡ y) × (f ≡ g) × (m ≡ o)
-one-linked t {fs} {ns} {f} {g} {m} {o} x y p q = let left = go (linkAt t fs ns) refl in (tells-checked x y (p .answers ∙ sym (q .answers)), left .0, left .1)
-  where
-    go : (a : Answer (Unit {0})) → linkAt t fs ns ≡ a → (f ≡ g) × (m ≡ o)
-    go (got u n) e = one-pair (accepted t (link-got t fs ns (sym e)) .marks) (relinked-got (p .answers ∙ e) (p .left)) (relinked-got (q .answers ∙ e) (q .left))
-    go (refused why) e =
-        let a = relinked-refused (p .answers ∙ e) (p .left) in
-        let b = relinked-refused (q .answers ∙ e) (q .left) in
-        (a .0 ∙ sym (b .0), a .1 ∙ sym (b .1))
-
-pub one-walk-linked : (t : Table) {fs ns old new new′ : List ℕ} (x y : Written) → Keeping t fs ns (saysWritten x) (Walked t old (saysWritten x) new) (new ≡ old)
-    → Keeping t fs ns (saysWritten y) (Walked t old (saysWritten y) new′) (new′ ≡ old) → (x ≡ y) × (new ≡ new′)
-one-walk-linked t {old = old} {new} {new′} x y p q = one-keeping p q (one-walked t old new new′ x y) (λ e u w. (tells-written x y e, u ∙ sym w))
-
-pub one-paths-linked : (t : Table) {fs ns out ends o o′ b b′ : List ℕ} (x y : Written)
-    → Keeping t fs ns (saysWritten x) (AllPaths t out ends (saysWritten x) o b) ((o ≡ out) × (b ≡ ends))
-    → Keeping t fs ns (saysWritten y) (AllPaths t out ends (saysWritten y) o′ b′) ((o′ ≡ out) × (b′ ≡ ends)) → (x ≡ y) × (o ≡ o′) × (b ≡ b′)
-one-paths-linked t {out = out} {ends} {o} {o′} {b} {b′} x y p q =
-    one-keeping p q (one-paths t out ends x y o o′ b b′) (λ e u w. (tells-written x y e, u .0 ∙ sym (w .0), u .1 ∙ sym (w .1)))
 
 -- ── a walk is linear ──
 

@@ -11,7 +11,7 @@ ghost use Rattle.tree.specs.Links.{chainIn, firstAt, nextAt, Linking, ag
 use crate::Checked;
 use crate::table;
 
-// Of lists that hold 0 alone.
+// The links of a table that keeps its rule, into lists that hold 0 alone: each live place is put before its later siblings.
 pub(crate) fn link_ruled(parents: &[u16], marks: &[u8], first: &mut [u16], next: &mut [u16])
     requires { ⌜ Ruled (now parents) ⌝ }
     requires { ⌜ length (now marks) ≡ length (now parents) ⌝ }
@@ -29,6 +29,7 @@ pub(crate) fn link_ruled(parents: &[u16], marks: &[u8], first: &mut [u16], next:
     }
 }
 
+// Makes every entry 0.
 fn clear(list: &mut [u16])
     ensures { λ r. ⌜ (length (now (list .exit)) ≡ length (now (list .entry))) × ((k : ℕ) → getD (now (list .exit)) k 0 ≡ 0) ⌝ }
 {

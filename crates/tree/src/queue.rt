@@ -14,7 +14,7 @@ use crate::linking;
 use crate::table;
 use layout::Written;
 
-// The places of a table that keeps its rule, by its links: `places` is the queue, whose first `i` are done.
+// The places of a table that keeps its rule, by its links: `places` is the queue, whose first `i` are done. `parents` and `marks` say whose links they are.
 pub(crate) fn walk_ruled(
     parents: &[u16],
     marks: &[u8],
