@@ -1,4 +1,5 @@
-// All paths in walk order, end to end. Two passes: measure, then put. Each name is made once in each: a place's path is its parent's, which stands already, the slash, and the name.
+// The paths of places end to end, in any order in which a parent stands before its children. Two passes: measure, then put. A place's path is its parent's, copied from where it
+// stands already, the slash, and the name.
 ghost use mathlib.Core.Path.{_≡_};
 ghost use Prim.Native.Nat.{_+_, _≤_, _<_};
 ghost use lib.ListN.{length, take, drop};
