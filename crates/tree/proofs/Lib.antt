@@ -5,4 +5,8 @@ pub mod Tables
 pub mod Exact
 pub mod Scans
 pub mod Routes
+pub mod Onward
+pub mod Copied
 pub mod Trails
+pub mod Passing
+pub mod Linked

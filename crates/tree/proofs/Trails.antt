@@ -16,13 +16,14 @@ use Rattle.layout.specs.Written.{says, no, Wrote, Put, leftOf}
 use Rattle.layout.proofs.laws.Numbers.{zero-one}
 use Rattle.layout.proofs.laws.Writing.{refusal, no-room, done}
 use Rattle.layout.specs.Refusals.{ROOM}
-use Rattle.tree.specs.Facts.{Ruled, Kept, Marks, Listing}
+use Rattle.tree.specs.Facts.{Ruled, Kept, Marks, Listing, PathsGiven}
 use Rattle.tree.specs.Listed.{times, Every, none, more}
 use Rattle.tree.specs.Table.{Table, rows, stops, flags, live, tableAt}
 use Rattle.tree.specs.Way.{Walk}
 use Rattle.tree.specs.Path.{pathOf, joined, endsFrom, pathsSaid, endsSaid, Walked, AllPaths}
 use Rattle.tree.specs.Says.{Walks}
 use Rattle.tree.proofs.laws.Counts.{hit, pigeon}
+use Rattle.tree.proofs.Onward.{above-it}
 use Rattle.tree.proofs.Routes.{path-short}
 
 -- ── one at a time ──
@@ -76,7 +77,7 @@ listing {ps} {es} {ns} {l} {has} kept marks w =
     let at : (k : ℕ) → (times k l ≤ 1) × (0 < times k l → k < length ps) × (length ps ≤ k → times k l ≡ 0) = λ k. once-there (length ps) k (times k l) (has k) (marks .place k) (w .once k) in
     let few = pigeon (length ps) l (λ k. at k .0) (λ k. at k .2) in
     let most = kept .ruling .few in
-    record { kept = kept; places = every-there l (λ k. at k .1); few = omega arith }
+    record { kept = kept; places = every-there l (λ k. at k .1); above = above-it ps (kept .ruling) marks w; few = omega arith }
 
 -- the front of the queue is the walk
 pub front : {ps old new : List ℕ} {has : ℕ → Bool} {n : ℕ} → Walks ps has old n new → Walk ps has (take n new) × (length (take n new) ≡ n) × (n ≤ length new)
@@ -105,58 +106,48 @@ module _ (t : Table) (out ends : List ℕ) where
     left = rw (← e);
   }
 
-  module _ {n : ℕ} (e : got tt n ≡ tableAt t) (l : List ℕ) (w : Walk (rows t) (live (flags t)) l) where
-    abbrev bytes : List ℕ
-    bytes = joined (rows t) (stops t) (t .names) l
+  pub all-given : {n : ℕ} {l out′ ends′ : List ℕ} {a : Answer (Unit {0})} → got tt n ≡ tableAt t → Walk (rows t) (live (flags t)) l
+      → PathsGiven (rows t) (stops t) (t .names) l out ends a out′ ends′ → AllPaths t out ends a out′ ends′
+  unfolding pathsSaid endsSaid
+  all-given {l = l} e w g = record { order = l; walked = λ n f. w; wrote = rw (← e) (g .wrote); left = rw (← e) (g .left) }
 
-    abbrev places : List ℕ
-    places = endsFrom 0 (rows t) (stops t) (t .names) l
+-- by the room that the outputs have
+module _ (ps es ns l out ends : List ℕ) where
+  abbrev bytes : List ℕ
+  bytes = joined ps es ns l
 
-    places-long : length places ≡ length l
-    places-long = ends-long (rows t) (stops t) (t .names) l 0
+  abbrev places : List ℕ
+  places = endsFrom 0 ps es ns l
 
-    said-paths : length l ≤ length ends → pathsSaid t l (length ends) ≡ says bytes
-    unfolding pathsSaid
-    said-paths h = rw (← e, le-leb (length l) (length ends) h)
+  said-ends : length bytes ≤ length out → pick (leb (length bytes) (length out)) (says places) (no (bare ROOM)) ≡ says places
+  said-ends k = rw (le-leb (length bytes) (length out) k)
 
-    said-no-paths : length ends < length l → pathsSaid t l (length ends) ≡ no (bare ROOM)
-    unfolding pathsSaid
-    said-no-paths h = rw (← e, lt-leb (length l) (length ends) h)
+  said-no-ends : length out < length bytes → pick (leb (length bytes) (length out)) (says places) (no (bare ROOM)) ≡ no (bare ROOM)
+  said-no-ends k = rw (lt-leb (length bytes) (length out) k)
 
-    said-ends : length bytes ≤ length out → endsSaid t l (length out) ≡ says places
-    unfolding endsSaid
-    said-ends h = rw (← e, le-leb (length bytes) (length out) h)
+  -- too few ends: they are left as they are, whether the bytes have room or not
+  pub given-no-ends : {why : Told} → why ≡ bare ROOM → length ends < length l → PathsGiven ps es ns l out ends (refused why) out ends
+  given-no-ends f h = record {
+    wrote = refusal (rw (lt-leb (length l) (length ends) h) (ap no (sym f)));
+    left = either (leb (length bytes) (length out)) refl;
+  }
+    where
+      either : (b : Bool) → leb (length bytes) (length out) ≡ b → ends ≡ leftOf (pick (leb (length bytes) (length out)) (says places) (no (bare ROOM))) ends
+      either true q = no-room {out = ends} (said-ends (leb-true (length bytes) (length out) q)) (omega (arith, ends-long ps es ns l 0)) refl .leaves
+      either false q = refusal (said-no-ends (leb-false (length bytes) (length out) q)) .leaves
 
-    said-no-ends : length out < length bytes → endsSaid t l (length out) ≡ no (bare ROOM)
-    unfolding endsSaid
-    said-no-ends h = rw (← e, lt-leb (length bytes) (length out) h)
+  module _ (h : length l ≤ length ends) where
+    said-paths : pick (leb (length l) (length ends)) (says bytes) (no (bare ROOM)) ≡ says bytes
+    said-paths = rw (le-leb (length l) (length ends) h)
 
-    -- too few ends: they are left as they are, whether the bytes have room or not
-    pub all-no-ends : {why : Told} → why ≡ bare ROOM → length ends < length l → AllPaths t out ends (refused why) out ends
-    all-no-ends f h = record {
-      order = l;
-      walked = λ n e. w;
-      wrote = refusal (said-no-paths h ∙ ap no (sym f));
-      left = either (leb (length bytes) (length out)) refl;
+    pub given-no-room : {why : Told} → why ≡ bare ROOM → length out < length bytes → PathsGiven ps es ns l out ends (refused why) out ends
+    given-no-room f k = record {
+      wrote = no-room said-paths k f;
+      left = refusal (said-no-ends k) .leaves;
     }
-      where
-        either : (b : Bool) → leb (length bytes) (length out) ≡ b → ends ≡ leftOf (endsSaid t l (length out)) ends
-        either true q = no-room {out = ends} (said-ends (leb-true (length bytes) (length out) q)) (omega (arith, places-long)) refl .leaves
-        either false q = refusal (said-no-ends (leb-false (length bytes) (length out) q)) .leaves
 
-    module _ (h : length l ≤ length ends) where
-      pub all-no-room : {why : Told} → why ≡ bare ROOM → length out < length bytes → AllPaths t out ends (refused why) out ends
-      all-no-room f k = record {
-        order = l;
-        walked = λ n e. w;
-        wrote = no-room (said-paths h) k f;
-        left = refusal (said-no-ends k) .leaves;
-      }
-
-      pub all-done : {out′ ends′ : List ℕ} {n m : ℕ} → length bytes ≤ length out → Put out 0 bytes out′ n → Put ends 0 places ends′ m → AllPaths t out ends (got tt n) out′ ends′
-      all-done k p q = record {
-        order = l;
-        walked = λ n e. w;
-        wrote = done (said-paths h) k p;
-        left = done (said-ends k) (omega (arith, places-long)) q .leaves;
-      }
+    pub given-done : {out′ ends′ : List ℕ} {n m : ℕ} → length bytes ≤ length out → Put out 0 bytes out′ n → Put ends 0 places ends′ m → PathsGiven ps es ns l out ends (got tt n) out′ ends′
+    given-done k p q = record {
+      wrote = done said-paths k p;
+      left = done (said-ends k) (omega (arith, ends-long ps es ns l 0)) q .leaves;
+    }

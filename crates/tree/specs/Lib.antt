@@ -6,3 +6,4 @@ pub mod Path
 pub mod Says
 pub mod Facts
 pub mod Kids
+pub mod Links

@@ -17,7 +17,7 @@ use Rattle.tree.specs.Way.{fromRoot, way, depth, Left, here, there, stop
 use Rattle.tree.specs.Path.{nameOf, slashAfter, pathOf}
 use Rattle.tree.proofs.laws.Counts.{equal, hit, miss, every-append}
 use Rattle.tree.proofs.laws.Ways.{at-root, by-parent, way-root, way-step}
-use Rattle.tree.proofs.Grown.{by-mark, clash}
+use Rattle.tree.proofs.laws.Below.{by-mark, clash}
 
 -- the marked places of ps stand in qs, in the same order, and nothing else is marked there
 pub record Moves (ps : List ℕ) (has : ℕ → Bool) (qs : List ℕ) (now : ℕ → Bool) (new : ℕ → ℕ) : Type 0 where

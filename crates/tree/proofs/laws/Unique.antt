@@ -9,15 +9,20 @@ use Prim.Native.Nat.{ℕ}
 use lib.ListN.{length, drop}
 use Rattle.layout.specs.Answer.{Told, Answer, got, refused}
 use Rattle.layout.specs.Written.{Said, says, no, saysWritten, leftOf}
-use Rattle.layout.proofs.laws.Determined.{Tells, one-written}
+use Rattle.layout.proofs.laws.Determined.{Tells, tells-written, one-written}
 use Rattle.layout.proofs.laws.Numbers.{zero-one}
 use Rattle.tree.specs.Table.{Table, rows, flags, live, tableAt}
 use Rattle.tree.specs.Way.{Walk}
 use Rattle.tree.specs.Path.{saidIf, pathsSaid, endsSaid, Walked, AllPaths}
+use Rattle.tree.specs.Links.{linkAt, Linked, Keeping}
 use Rattle.tree.specs.Says.{saysChecked, Walks, OrderSays, order, no-order}
+use Rattle.tree.specs.declared.Checked.{Checked}
 use Rattle.tree.specs.declared.Checked.the-variants as checked
 use Rattle.tree.specs.declared.Order.{Order}
 use Rattle.layout.specs.declared.Written.{Written}
+use Rattle.tree.proofs.laws.Kept.{link-got, one-keeping, relinked-got, relinked-refused}
+use Rattle.tree.proofs.laws.Links.{one-pair}
+use Rattle.tree.proofs.laws.Sound.{accepted}
 use Rattle.tree.proofs.laws.Ways.{one-walk}
 
 pub tells-checked : Tells saysChecked
@@ -85,3 +90,25 @@ one-paths t out ends x y o o′ e e′ p q =
     let paths = same-paths t (p .order) (q .order) (length ends) (p .walked) (q .walked) in
     let both = one-written (pathsSaid t (q .order) (length ends)) out o o′ x y (rw paths at (p .wrote)) (q .wrote) in
     (both .0, both .1, p .left ∙ ap (λ (s : Said). leftOf s ends) (same-ends t (p .order) (q .order) (length out) (p .walked) (q .walked)) ∙ sym (q .left))
+
+-- ── links, and a table that keeps them ──
+
+pub one-linked : (t : Table) {fs ns f g m o : List ℕ} (x y : Checked) → Linked t fs ns (saysChecked x) f m → Linked t fs ns (saysChecked y) g o → (x ≡ y) × (f ≡ g) × (m ≡ o)
+one-linked t {fs} {ns} {f} {g} {m} {o} x y p q = let left = go (linkAt t fs ns) refl in (tells-checked x y (p .answers ∙ sym (q .answers)), left .0, left .1)
+  where
+    go : (a : Answer (Unit {0})) → linkAt t fs ns ≡ a → (f ≡ g) × (m ≡ o)
+    go (got u n) e = one-pair (accepted t (link-got t fs ns (sym e)) .marks) (relinked-got (p .answers ∙ e) (p .left)) (relinked-got (q .answers ∙ e) (q .left))
+    go (refused why) e =
+        let a = relinked-refused (p .answers ∙ e) (p .left) in
+        let b = relinked-refused (q .answers ∙ e) (q .left) in
+        (a .0 ∙ sym (b .0), a .1 ∙ sym (b .1))
+
+pub one-walk-linked : (t : Table) {fs ns old new new′ : List ℕ} (x y : Written) → Keeping t fs ns (saysWritten x) (Walked t old (saysWritten x) new) (new ≡ old)
+    → Keeping t fs ns (saysWritten y) (Walked t old (saysWritten y) new′) (new′ ≡ old) → (x ≡ y) × (new ≡ new′)
+one-walk-linked t {old = old} {new} {new′} x y p q = one-keeping p q (one-walked t old new new′ x y) (λ e u w. (tells-written x y e, u ∙ sym w))
+
+pub one-paths-linked : (t : Table) {fs ns out ends o o′ b b′ : List ℕ} (x y : Written)
+    → Keeping t fs ns (saysWritten x) (AllPaths t out ends (saysWritten x) o b) ((o ≡ out) × (b ≡ ends))
+    → Keeping t fs ns (saysWritten y) (AllPaths t out ends (saysWritten y) o′ b′) ((o′ ≡ out) × (b′ ≡ ends)) → (x ≡ y) × (o ≡ o′) × (b ≡ b′)
+one-paths-linked t {out = out} {ends} {o} {o′} {b} {b′} x y p q =
+    one-keeping p q (one-paths t out ends x y o o′ b b′) (λ e u w. (tells-written x y e, u .0 ∙ sym (w .0), u .1 ∙ sym (w .1)))

@@ -36,7 +36,7 @@ left-last (x ∷ s) h = there (left-last s h)
 
 -- ── no two places are each before the other ──
 
-never : (ps : List ℕ) (a b : ℕ) → Before ps a b → Before ps b a → ⊥
+pub never : (ps : List ℕ) (a b : ℕ) → Before ps a b → Before ps b a → ⊥
 never ps a b (higher h) (higher g) = omega arith
 never ps a b (higher h) (beside e p) = omega arith
 never ps a b (beside e p) (higher g) = omega arith
