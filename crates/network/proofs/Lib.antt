@@ -1,0 +1,17 @@
+pub mod PacketSizes
+pub mod PacketLaws
+pub mod ItemsLaws
+pub mod SeenNumbers
+pub mod SeenLoop
+pub mod PutLaws
+pub mod TranslatedLaws
+pub mod Examples
+pub mod PacketReadBack
+pub mod FromComplete
+pub mod ReadWords
+pub mod ToSound
+pub mod ToComplete
+pub mod FromSound
+pub mod TransactionExact
+pub mod PacketRefused
+pub mod Told
