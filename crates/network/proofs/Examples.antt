@@ -1,7 +1,7 @@
 -- The examples of the request, by computing.
 -- Assumes nothing.
 use mathlib.Core.Path.{_≡_, refl}
-use mathlib.Core.List.{List, [], _∷_}
+use mathlib.Core.List.{[], _∷_}
 use Rattle.layout.specs.Answer.{got, refused, after, means, endAt, bare, spanAt, fieldAt}
 use Rattle.layout.specs.Bytes.{bytes, number}
 use Rattle.layout.specs.Written.{says, no}

@@ -4,18 +4,18 @@ use mathlib.Core.Path.{_≡_, refl, sym, ap, subst, _∙_}
 use mathlib.Core.Bool.{Bool, true, false}
 use mathlib.Core.List.{List, [], _∷_, _++_, append-assoc, append-nil}
 use mathlib.Core.Option.{Option, some, none}
-use Prim.Native.Nat.{ℕ, zero, suc, _+_, _-_, _%_, _^_, _≤_, _<_}
+use Prim.Native.Nat.{ℕ, _+_, _-_, _%_, _^_, _≤_, _<_}
 use native.Mathlib.Omega.{arith}
 use borrow.Author.Tests.{le-leb, eq-eqb}
-use lib.Dec.{leb, eqb, lit≤}
-use lib.ListN.{length, take, drop, length-append, length-drop}
+use lib.Dec.{eqb, lit≤}
+use lib.ListN.{length, drop, length-append, length-drop}
 use Rattle.layout.specs.Answer.{got, Reader, pick, means}
 use Rattle.layout.specs.Written.{says}
 use Rattle.wire.specs.declared.Part.{Part}
 use Rattle.wire.specs.Returned.{partOf}
 use Rattle.network.specs.Packet.{isPacket, phaseSize, codeSize, totalSize, headSize, wholeFields, packetAt, packetWord}
 use Rattle.network.specs.Transaction.{Transaction, Params, Fits, DataFits, containersWord, dataWords, joined, Between, nothing, cut, Packets, requestWord, responseWord, startWord, endWord}
-use Rattle.network.specs.Translated.{itemsFrom, itemsIn, folded, noneSeen, nextPacket, lookPacket, dataIn, seenIn, fromJudged, fromSaid, isAnswered}
+use Rattle.network.specs.Translated.{itemsFrom, itemsIn, folded, noneSeen, nextPacket, lookPacket, dataIn, seenIn, fromJudged, fromSaid}
 use Rattle.network.specs.declared.packet.Packet.{Packet}
 use Rattle.network.specs.declared.see.Seen.{Seen}
 use Rattle.network.specs.declared.see.Stage.{Stage}
@@ -307,7 +307,3 @@ from-complete p t x = go (t .payload) refl (x .middle) (x .between) (x .word)
     go o l m (cut ds last) e =
         let fits = subst DataFits l (x .fits .payload) in
         came-cut t (x .fits) p (x .phase) (x .phase-fits) ds last l (fits .1) (e ∙ simp append-assoc)
-
--- so any two cuts of the same data give the same containers
-pub cuts-join : (p q : List ℕ) (t : Transaction) → Packets p t → Packets q t → fromSaid p ≡ fromSaid q
-cuts-join p q t x y = from-complete p t x ∙ sym (from-complete q t y)

@@ -4,23 +4,23 @@ use mathlib.Core.Path.{_≡_, refl, sym, ap, subst, _∙_}
 use mathlib.Core.Bool.{Bool, true, false}
 use mathlib.Core.Logic.{_↔_}
 use mathlib.Core.List.{List, [], _∷_, _++_, append-assoc, append-nil}
-use mathlib.Core.Option.{Option, some, none}
-use Prim.Native.Nat.{ℕ, zero, suc, _+_, _-_, _%_, _^_, _≤_, _<_}
+use mathlib.Core.Option.{some, none}
+use Prim.Native.Nat.{ℕ, _+_, _-_, _%_, _^_, _≤_, _<_}
 use native.Mathlib.Omega.{arith}
 use borrow.Author.Tests.{eqb-true, leb-true, le-leb}
 use lib.Dec.{leb, eqb}
-use lib.ListN.{length, take, drop, length-append, length-drop}
+use lib.ListN.{length, take, drop}
 use Rattle.layout.specs.Answer.{Answer, got, refused, pick, means, bare}
 use Rattle.layout.specs.Bytes.{Bytes}
 use Rattle.layout.specs.Format.{Stands}
 use Rattle.layout.specs.Refusals.{TID, COUNT}
-use Rattle.layout.specs.Written.{Said, says, no}
+use Rattle.layout.specs.Written.{says, no}
 use Rattle.layout.proofs.laws.Numbers.{zero-one, Bytes-take, Bytes-drop}
 use Rattle.layout.proofs.laws.Words.{join}
 use Rattle.wire.specs.Returned.{partOf}
 use Rattle.network.specs.Refusals.{FIELDS, TRANSACTION}
-use Rattle.network.specs.Packet.{phaseSize, codeSize, totalSize, headSize, wholeFields, packetAt, packetWord}
-use Rattle.network.specs.Transaction.{Transaction, Params, Fits, containersWord, dataWords, joined, nothing, cut, Packets, requestWord, responseWord, startWord, endWord}
+use Rattle.network.specs.Packet.{phaseSize, codeSize, totalSize, wholeFields, packetAt, packetWord}
+use Rattle.network.specs.Transaction.{Transaction, Params, containersWord, dataWords, joined, nothing, cut, Packets, requestWord, responseWord, startWord, endWord}
 use Rattle.network.specs.TransactionSays.{Each, OneNumber, DataAndResponse, end-data, data-packet, SuchPackets, request-response, request-data-response}
 use Rattle.network.specs.Translated.{both, itemsFrom, itemsIn, folded, noneSeen, nextPacket, pieceSize, lookPacket, dataIn, seenIn, fromJudged, fromSaid, saidOr, isAnswered}
 use Rattle.network.specs.declared.packet.Packet.{Packet}

@@ -8,16 +8,16 @@ use native.Mathlib.Omega.{arith}
 use borrow.Author.Tests.{le-leb}
 use lib.ListN.{length, take, drop, length-append, length-drop}
 use lib.Seq.{drop-drop, drop-append-seam}
-use Rattle.layout.specs.Answer.{got, after, fieldAt}
+use Rattle.layout.specs.Answer.{got, after}
 use Rattle.layout.specs.Bytes.{bytes, number}
 use Rattle.layout.specs.Format.{Stands}
 use Rattle.layout.proofs.laws.Numbers.{length-bytes, number-bytes}
 use Rattle.layout.proofs.laws.Reading.{field-there}
 use Rattle.layout.proofs.laws.Words.{front, split, fits}
-use Rattle.wire.specs.declared.Part.{Part}
 use Rattle.wire.specs.Returned.{partOf}
-use Rattle.network.specs.Packet.{isPacket, phaseSize, codeSize, totalSize, headSize, wholeFields, packetIn, packetRest, packetAt, packetWord}
+use Rattle.network.specs.Packet.{isPacket, phaseSize, codeSize, totalSize, headSize, wholeFields, packetIn, packetRest, packetAt, packetWord, saysPacket}
 use Rattle.network.specs.declared.packet.Packet.{Packet}
+use Rattle.network.specs.declared.packet.ReadPacket.{ReadPacket}
 use Rattle.network.proofs.PutLaws.{packet-length}
 
 -- the packet of these fields at a place
@@ -90,3 +90,7 @@ module _ (kind phase code tid total : ℕ) (body : List ℕ) (f : Fitting kind p
             (ap (λ n. got (placed at kind phase code tid total n) (at + (headSize kind + length body))) (omega arith)),
         rw l6 at (s7 .1 .is),
       )
+
+  -- of the function's own answer: its numbers, and where its bytes are
+  pub packet-back : (r : ReadPacket) → saysPacket r ≡ packetAt s at → (saysPacket r ≡ got (placed at kind phase code tid total (length body)) (at + (headSize kind + length body))) × (partOf s (record { start = at + headSize kind; count = length body }) ≡ body)
+  packet-back r promised = (promised ∙ packet-there .0, packet-there .1)

@@ -2,14 +2,14 @@
 -- Assumes nothing.
 use mathlib.Core.Path.{_≡_, refl, sym, ap, _∙_}
 use mathlib.Core.Bool.{Bool, true, false}
-use mathlib.Core.List.{List, [], _∷_, _++_}
+use mathlib.Core.List.{List, _∷_, _++_}
 use Prim.Native.Nat.{ℕ, _+_, _-_, _≤_, _<_}
 use native.Mathlib.Omega.{arith}
 use borrow.Author.Tests.{le-leb, lt-leb, leb-true, leb-false}
 use lib.Dec.{leb}
 use lib.ListN.{length, take, drop, length-append, length-drop}
 use lib.Seq.{length-take-le}
-use Rattle.layout.specs.Answer.{Told, Answer, got, refused, means}
+use Rattle.layout.specs.Answer.{Told, got, refused}
 use Rattle.layout.specs.Bytes.{bytes}
 use Rattle.layout.specs.Written.{Put, roomed}
 use Rattle.layout.proofs.laws.Accepted.{accepted}

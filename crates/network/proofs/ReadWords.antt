@@ -1,21 +1,20 @@
 -- What is read is a word that stands there: of containers, and of packets.
 -- Assumes nothing.
-use mathlib.Core.Path.{_≡_, refl, sym, ap, subst, _∙_}
-use mathlib.Core.Logic.{inl, inr}
-use mathlib.Core.List.{List, [], _∷_, _++_}
+use mathlib.Core.Path.{_≡_, sym, ap, subst, _∙_}
+use mathlib.Core.List.{List}
 use Prim.Native.Nat.{ℕ, _+_, _-_, _^_, _≤_, _<_}
 use native.Mathlib.Omega.{arith}
 use lib.ListN.{length, take, drop, length-drop}
 use lib.Seq.{drop-drop, length-take-le}
-use Rattle.layout.specs.Answer.{Answer, got, refused}
+use Rattle.layout.specs.Answer.{Answer, got}
 use Rattle.layout.specs.Bytes.{Bytes, bytes, number}
 use Rattle.layout.specs.Format.{Stands}
 use Rattle.layout.proofs.laws.Accepted.{Accepts, accepted}
 use Rattle.layout.proofs.laws.Numbers.{Bytes-drop, Bytes-take, bytes-number, number-lt}
-use Rattle.layout.proofs.laws.Words.{join, part-there, rest-of}
+use Rattle.layout.proofs.laws.Words.{join, part-there}
 use Rattle.wire.specs.Container.{containerAt, containerWord}
 use Rattle.wire.specs.Tests.{holds, fails, otherwise}
-use Rattle.wire.specs.Refused.{announced, kindIn, codeIn, numberIn, ContainerSays, containerIn}
+use Rattle.wire.specs.Refused.{announced, ContainerSays, containerIn}
 use Rattle.wire.specs.Returned.{partOf}
 use Rattle.wire.specs.declared.container.Container.{Container}
 use Rattle.wire.proofs.laws.Judged.{container-judged, least}

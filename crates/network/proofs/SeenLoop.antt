@@ -2,21 +2,21 @@
 -- Assumes nothing.
 use mathlib.Core.Path.{_≡_, sym, _∙_}
 use mathlib.Core.List.{List}
-use Prim.Native.Nat.{ℕ, _+_, _-_, _≤_, _<_}
+use Prim.Native.Nat.{ℕ, _-_, _<_}
 use native.Mathlib.Omega.{arith}
 use lib.Dec.{eqb}
 use lib.ListN.{length}
-use Rattle.layout.specs.Answer.{Told, Answer, got, refused, means}
+use Rattle.layout.specs.Answer.{got}
 use Rattle.layout.proofs.laws.Accepted.{accepted}
 use Rattle.wire.specs.Container.{containerAt}
 use Rattle.wire.specs.declared.container.Container.{Container}
 use Rattle.wire.proofs.laws.Contained.{Boxed, container-stands}
 use Rattle.network.specs.Packet.{packetAt}
-use Rattle.network.specs.Translated.{itemsIn, folded, noneSeen, nextContainer, nextPacket, pieceSize, lookContainer, lookPacket}
+use Rattle.network.specs.Translated.{nextContainer, nextPacket, pieceSize, lookContainer, lookPacket}
 use Rattle.network.specs.declared.packet.Packet.{Packet}
 use Rattle.network.specs.declared.see.Seen.{Seen}
 use Rattle.network.proofs.PacketLaws.{Stood, packet-stands, piece-fits}
-use Rattle.network.proofs.ItemsLaws.{rest-none, rest-passed, rest-refused, Seeing, noted-within}
+use Rattle.network.proofs.ItemsLaws.{rest-passed, Seeing, noted-within}
 
 pub container-seen : {s : List ℕ} {at : ℕ} {t : Seen} {x : Container} {next : ℕ} → Seeing containerAt lookContainer s at t → at < length s → got x next ≡ containerAt s at →
     (at < next) × Seeing containerAt lookContainer s next (lookContainer t x)

@@ -1,26 +1,25 @@
 -- The containers of a transaction are translated to its tidy packets.
 -- Assumes nothing.
 use mathlib.Core.Path.{_≡_, refl, sym, ap, subst, _∙_}
-use mathlib.Core.Bool.{Bool, true, false}
+use mathlib.Core.Bool.{true, false}
 use mathlib.Core.List.{List, [], _∷_, _++_, append-assoc, append-nil}
 use mathlib.Core.Option.{Option, some, none}
-use Prim.Native.Nat.{ℕ, _+_, _-_, _%_, _^_, _≤_, _<_}
+use Prim.Native.Nat.{ℕ, _+_, _%_, _^_, _≤_, _<_}
 use native.Mathlib.Omega.{arith}
 use borrow.Author.Tests.{le-leb, eq-eqb}
-use lib.Dec.{leb, eqb, lit≤}
-use lib.ListN.{length, take, drop, length-append, length-drop}
+use lib.Dec.{eqb}
+use lib.ListN.{length, drop, length-append, length-drop}
 use lib.Seq.{drop-drop, drop-append-seam}
-use Rattle.layout.specs.Answer.{got, pick, means}
+use Rattle.layout.specs.Answer.{got, means}
 use Rattle.layout.specs.Written.{says}
 use Rattle.wire.specs.Container.{isKind, containerAt, containerWord}
 use Rattle.wire.specs.Returned.{partOf}
-use Rattle.wire.specs.declared.Part.{Part}
 use Rattle.wire.specs.declared.container.Container.{Container}
 use Rattle.wire.proofs.laws.Contained.{container-length}
 use Rattle.wire.proofs.laws.ReadBack.{container-there, payload-there}
 use Rattle.network.specs.Transaction.{Transaction, Params, Fits, DataFits, Containers, dataContainer, containersWord, tidyWord}
 use Rattle.network.specs.Inner.{readings}
-use Rattle.network.specs.Translated.{both, fewWhole, itemsIn, folded, noneSeen, nextContainer, lookContainer, seenIn, toJudged, toSaid}
+use Rattle.network.specs.Translated.{fewWhole, itemsIn, folded, noneSeen, nextContainer, lookContainer, seenIn, toJudged, toSaid}
 use Rattle.network.specs.declared.see.Seen.{Seen}
 use Rattle.network.specs.declared.see.Stage.the-variants as stage
 use Rattle.network.specs.declared.translate.Direction.{Direction}

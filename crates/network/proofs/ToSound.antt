@@ -1,22 +1,22 @@
 -- Containers that are translated are those of a transaction, and they are translated to its tidy packets.
 -- Assumes nothing.
-use mathlib.Core.Path.{_≡_, refl, sym, ap, subst, _∙_}
+use mathlib.Core.Path.{_≡_, refl, sym, ap, _∙_}
 use mathlib.Core.Bool.{Bool, true, false}
 use mathlib.Core.Logic.{_↔_}
-use mathlib.Core.List.{List, [], _∷_, _++_, append-assoc, append-nil}
-use mathlib.Core.Option.{Option, some, none}
-use Prim.Native.Nat.{ℕ, zero, suc, _+_, _-_, _%_, _^_, _≤_, _<_}
+use mathlib.Core.List.{List, [], _∷_, _++_, append-nil}
+use mathlib.Core.Option.{some, none}
+use Prim.Native.Nat.{ℕ, zero, suc, _-_, _%_, _≤_, _<_}
 use native.Mathlib.Numerals.{sub-one}
 use native.Mathlib.Omega.{arith}
 use borrow.Author.Tests.{le-leb, eq-eqb, eqb-true, leb-true, ltb-true, ltb-false}
-use lib.Dec.{leb, ltb, eqb, lit≤}
-use lib.ListN.{length, take, drop, length-append, length-drop}
-use lib.Seq.{take-all, drop-drop, drop-append-seam}
-use Rattle.layout.specs.Answer.{Told, Answer, got, refused, Reader, pick, after, means, bare}
+use lib.Dec.{leb, ltb, eqb}
+use lib.ListN.{length}
+use lib.Seq.{take-all}
+use Rattle.layout.specs.Answer.{Answer, got, refused, Reader, pick, after, means, bare}
 use Rattle.layout.specs.Bytes.{Bytes}
 use Rattle.layout.specs.Format.{Stands}
 use Rattle.layout.specs.Refusals.{TID}
-use Rattle.layout.specs.Written.{Said, says, no}
+use Rattle.layout.specs.Written.{says, no}
 use Rattle.layout.proofs.laws.Accepted.{accepted}
 use Rattle.layout.proofs.laws.Numbers.{zero-one}
 use Rattle.layout.proofs.laws.Reading.{unmeant}
@@ -26,7 +26,7 @@ use Rattle.wire.specs.Returned.{partOf}
 use Rattle.wire.proofs.laws.Contained.{container-length}
 use Rattle.wire.specs.declared.container.Container.{Container}
 use Rattle.network.specs.Refusals.{TRANSACTION}
-use Rattle.network.specs.Transaction.{Transaction, Params, Fits, Containers, dataContainer, containersWord, tidyWord}
+use Rattle.network.specs.Transaction.{Transaction, Params, Containers, dataContainer, containersWord, tidyWord}
 use Rattle.network.specs.TransactionSays.{OneNumber, FiveWhole, SuchContainers, command-response, command-data-response}
 use Rattle.network.specs.Translated.{both, fewWhole, itemsFrom, itemsIn, folded, noneSeen, nextContainer, lookContainer, seenIn, toJudged, toSaid, saidOr, isAnswered}
 use Rattle.network.specs.declared.see.Seen.{Seen}

@@ -1,8 +1,8 @@
 -- Which refusals have a place: 1 and no other; and it lies in the bytes that were lent. So do the parts of a packet that is accepted.
 -- Assumes nothing.
-use mathlib.Core.Path.{_≡_, refl, sym, subst, _∙_}
+use mathlib.Core.Path.{_≡_, refl, sym, subst}
 use mathlib.Core.Bool.{Bool, true, false}
-use mathlib.Core.List.{List, _∷_}
+use mathlib.Core.List.{List}
 use Prim.Native.Nat.{ℕ, zero, suc, _+_, _≤_, _<_}
 use native.Mathlib.Nat.{le-refl}
 use native.Mathlib.Omega.{arith}
@@ -16,7 +16,7 @@ use Rattle.layout.specs.declared.Written.{Written}
 use Rattle.layout.proofs.laws.Accepted.{accepted}
 use Rattle.layout.proofs.laws.Did.{Kept, not-due, too-short, kept}
 use Rattle.layout.proofs.laws.Numbers.{zero-one}
-use Rattle.layout.proofs.laws.Told.{Telling, read, ended, spoilt, other, plainly, Closed, Everywhere, everywhere, UpTo, up-to, telling-same, telling-pick, telling-after, telling-means, telling-exactly, telling-inside}
+use Rattle.layout.proofs.laws.Told.{Telling, read, ended, spoilt, other, plainly, Closed, everywhere, up-to, telling-same, telling-pick, telling-after, telling-means, telling-exactly, telling-inside}
 use Rattle.wire.specs.Container.{containerAt}
 use Rattle.wire.specs.Tests.{holds, fails}
 use Rattle.wire.proofs.laws.Judged.{least}
@@ -28,7 +28,6 @@ use Rattle.network.specs.PacketSays as packet
 use Rattle.network.specs.Translated.{itemsFrom, itemsIn, folded, noneSeen, lookContainer, lookPacket, dataIn, isAnswered, toJudged, fromJudged, saidOr, toSaid, fromSaid}
 use Rattle.network.specs.declared.packet.Packet.{Packet}
 use Rattle.network.specs.declared.packet.ReadPacket.{ReadPacket}
-use Rattle.network.specs.declared.packet.ReadPacket.the-variants as readPacket
 use Rattle.network.specs.declared.see.Seen.{Seen}
 use Rattle.network.specs.declared.translate.Direction.{Direction}
 use Rattle.network.proofs.PacketLaws.{Stood, packet-stands}

@@ -3,11 +3,11 @@
 use mathlib.Core.Path.{_≡_, refl, sym, ap, _∙_}
 use mathlib.Core.Bool.{Bool, true, false}
 use mathlib.Core.List.{List, [], _∷_, _++_}
-use mathlib.Core.Option.{Option, some, none}
-use Prim.Native.Nat.{ℕ, zero, suc, _+_, _-_, _≤_, _<_}
+use mathlib.Core.Option.{some, none}
+use Prim.Native.Nat.{ℕ, zero, suc, _+_, _≤_, _<_}
 use native.Mathlib.Omega.{arith}
 use borrow.Author.Tests.{le-leb, lt-leb, eq-eqb, ne-eqb}
-use lib.Dec.{leb, ltb, eqb}
+use lib.Dec.{ltb}
 use lib.ListN.{length, take, drop, length-append, length-drop}
 use lib.Seq.{length-take-le}
 use Rattle.layout.specs.Answer.{Told, Answer, got, refused, pick, after, means, bare}
@@ -15,7 +15,7 @@ use Rattle.layout.specs.Refusals.{TID, COUNT}
 use Rattle.layout.specs.Written.{says, no}
 use Rattle.layout.proofs.laws.Accepted.{accepted}
 use Rattle.layout.proofs.laws.Numbers.{zero-one}
-use Rattle.layout.proofs.laws.Reading.{one-got, unmeant, refused-meant}
+use Rattle.layout.proofs.laws.Reading.{unmeant, refused-meant}
 use Rattle.wire.specs.Container.{containerAt, containerWord}
 use Rattle.wire.specs.Returned.{partOf}
 use Rattle.wire.proofs.laws.Contained.{container-length}

@@ -1,10 +1,9 @@
 -- What the translators have to say. All items of the buffer are read from the front; then what was seen of them is judged, in the paper's order.
 -- Assumes nothing.
-use mathlib.Core.Path.{_≡_}
 use mathlib.Core.Bool.{Bool, true, false}
 use mathlib.Core.List.{List, [], _∷_, _++_}
-use mathlib.Core.Option.{Option, some, none}
-use Prim.Native.Nat.{ℕ, zero, suc, _+_, _%_, _≤_}
+use mathlib.Core.Option.{some, none}
+use Prim.Native.Nat.{ℕ, zero, suc, _+_, _%_}
 use lib.Dec.{leb, ltb, eqb}
 use lib.ListN.{length, take, drop}
 use Rattle.layout.specs.Answer.{Answer, got, refused, Reader, pick, after, means, bare}
@@ -21,10 +20,7 @@ use Rattle.network.specs.declared.packet.Packet.{Packet}
 use Rattle.network.specs.declared.see.Stage.{Stage}
 use Rattle.network.specs.declared.see.Stage.the-variants as stage
 use Rattle.network.specs.declared.see.Seen.{Seen}
-use Rattle.network.specs.declared.see.Sight.{Sight}
-use Rattle.network.specs.declared.see.Sight.the-variants as sight
 use Rattle.network.specs.declared.translate.Direction.{Direction}
-use Rattle.network.specs.declared.translate.Direction.the-variants as direction
 
 -- ── items from end to end, or the first refusal. Each takes bytes, so there are no more than the bytes are ──
 

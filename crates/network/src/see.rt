@@ -1,7 +1,6 @@
 // What is seen of a transaction's items, read from the front to the end.
 ghost use mathlib.Core.Path.{_≡_};
 ghost use Prim.Native.Nat.{_+_, _<_, _^_};
-ghost use lib.ListN.{length};
 ghost use Rattle.layout.specs.Answer.{pick};
 ghost use Rattle.wire.specs.Container.{containerAt};
 ghost use Rattle.network.specs.Packet.{packetAt};

@@ -1,6 +1,5 @@
 -- `network::packet::whole_fields`: its tests in their order. Assumes nothing.
-use borrow.Author.Tests.{eq-eqb, ne-eqb, le-leb, lt-leb, not-true, not-false}
-use lib.Dec.{leb}
+use borrow.Author.Tests.{eq-eqb, ne-eqb, le-leb, lt-leb}
 use Rattle.network.specs.Packet.{wholeFields, headSize}
 use borrow.Author.Needs.{needs}
 use Rattle.network.proofs.packet.whole_fields.Statement.{statement}

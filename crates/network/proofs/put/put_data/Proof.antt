@@ -2,10 +2,8 @@
 use native.Mathlib.Omega.{arith}
 use borrow.Author.Tests.{not-true, not-false}
 use denote.Ref.{now}
-use lib.ListN.{length}
 use mathlib.Core.List.{[]}
 use Rattle.layout.proofs.laws.Writing.{nothing, then, long}
-use Rattle.wire.specs.Returned.{partOf}
 use Rattle.network.specs.Packet.{phaseSize, codeSize, totalSize}
 use Rattle.network.specs.Transaction.{dataPackets}
 use Rattle.network.proofs.PutLaws.{part-length, packet-length}

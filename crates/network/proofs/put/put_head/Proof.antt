@@ -1,5 +1,4 @@
 -- `network::put::put_head`: four stores in a row. Assumes nothing.
-use native.Mathlib.Omega.{arith}
 use Rattle.network.proofs.PutLaws.{head-put}
 use borrow.Author.Needs.{needs}
 use Rattle.network.proofs.put.put_head.Statement.{statement}

@@ -1,7 +1,6 @@
 -- `network::put::put_joined`: nothing, or the twelve bytes and the data. Assumes nothing.
 use native.Mathlib.Omega.{arith}
 use borrow.Author.Tests.{not-true, not-false}
-use denote.Ref.{now}
 use mathlib.Core.Path.{sym}
 use Rattle.layout.proofs.laws.Writing.{nothing, long}
 use Rattle.network.specs.Transaction.{dataContainer}

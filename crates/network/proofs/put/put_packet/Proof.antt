@@ -1,5 +1,4 @@
 -- `network::put::put_packet`: seven stores in a row. Assumes nothing.
-use native.Mathlib.Omega.{arith}
 use denote.Ref.{now}
 use Rattle.wire.specs.Returned.{partOf}
 use Rattle.network.proofs.PutLaws.{part-length, packet-put}

@@ -1,5 +1,4 @@
 -- `network::see::note`: a field at a time. Assumes nothing.
-use Rattle.network.specs.Translated.{noted}
 use borrow.Author.Needs.{needs}
 use Rattle.network.proofs.see.note.Statement.{statement}
 use Rattle.network.proofs.see.note.Tie as tie

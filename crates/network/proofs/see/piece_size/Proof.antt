@@ -1,5 +1,4 @@
 -- `network::see::piece_size`: by its kind. Assumes nothing.
-use Rattle.network.specs.Translated.{pieceSize}
 use borrow.Author.Needs.{needs}
 use Rattle.network.proofs.see.piece_size.Statement.{statement}
 use Rattle.network.proofs.see.piece_size.Tie as tie

@@ -1,10 +1,9 @@
 -- `network::translate::put_packets`: request, data and response in a row. Assumes nothing.
 use native.Mathlib.Omega.{arith}
-use borrow.Author.Tests.{not-true, not-false}
-use mathlib.Core.Path.{_≡_, sym, _∙_}
+use mathlib.Core.Path.{_≡_}
 use denote.Ref.{now}
 use lib.ListN.{length}
-use Prim.Native.Nat.{_+_, _≤_}
+use Prim.Native.Nat.{_+_}
 use Rattle.layout.specs.Answer.{pick}
 use Rattle.layout.proofs.laws.Writing.{then, long}
 use Rattle.wire.specs.Returned.{partOf}

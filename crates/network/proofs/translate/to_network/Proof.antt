@@ -1,5 +1,4 @@
 -- `network::translate::to_network`: what was seen, or the first refusal. Assumes nothing.
-use native.Mathlib.Omega.{arith}
 use mathlib.Core.Path.{subst}
 use denote.Ref.{now}
 use Rattle.layout.proofs.laws.Reading.{heard}

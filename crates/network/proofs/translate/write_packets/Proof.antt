@@ -1,10 +1,10 @@
 -- `network::translate::write_packets`: the tests in their order, then all packets. Assumes nothing.
 use native.Mathlib.Omega.{arith}
 use borrow.Author.Tests.{not-true, not-false}
-use mathlib.Core.Path.{_≡_, sym, _∙_}
+use mathlib.Core.Path.{sym, _∙_}
 use denote.Ref.{now}
 use lib.ListN.{length}
-use Prim.Native.Nat.{_+_, _≤_}
+use Prim.Native.Nat.{_+_}
 use borrow.Author.Tests.{leb-true, leb-false}
 use Rattle.layout.specs.Answer.{pick}
 use Rattle.layout.proofs.laws.Writing.{refusal, no-room, done}
