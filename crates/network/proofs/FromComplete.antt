@@ -42,7 +42,7 @@ minus : (k n : ℕ) → k + n - k ≡ n
 minus k n = omega arith
 
 module _ (code number : ℕ) (ps : List ℕ) (h : Params ps) (c : code < 256 ^ 2) (n : number < 256 ^ 4) where
-  pub request-fits : (phase : ℕ) → phase < 256 ^ 4 → Fitting 6 phase code number 0 ps
+  request-fits : (phase : ℕ) → phase < 256 ^ 4 → Fitting 6 phase code number 0 ps
   unfolding isPacket wholeFields phaseSize codeSize totalSize
   request-fits phase p = record {
     known = refl;
@@ -55,7 +55,7 @@ module _ (code number : ℕ) (ps : List ℕ) (h : Params ps) (c : code < 256 ^ 2
     total-fits = lit≤ tt;
   }
 
-  pub response-fits : Fitting 7 0 code number 0 ps
+  response-fits : Fitting 7 0 code number 0 ps
   unfolding isPacket wholeFields phaseSize codeSize totalSize
   response-fits = record {
     known = refl;
@@ -69,11 +69,11 @@ module _ (code number : ℕ) (ps : List ℕ) (h : Params ps) (c : code < 256 ^ 2
   }
 
 module _ (number : ℕ) (n : number < 256 ^ 4) where
-  pub start-fits : (total : ℕ) → total ≤ 4294967283 → Fitting 9 0 0 number total []
+  start-fits : (total : ℕ) → total ≤ 4294967283 → Fitting 9 0 0 number total []
   unfolding isPacket wholeFields phaseSize codeSize totalSize
   start-fits total t = record { known = refl; whole = refl; small = lit≤ tt; kind-fits = lit≤ tt; phase-fits = lit≤ tt; code-fits = lit≤ tt; number-fits = n; total-fits = omega arith }
 
-  pub data-fits : (d : List ℕ) → length d ≤ 4294967283 → Fitting 10 0 0 number 0 d
+  data-fits : (d : List ℕ) → length d ≤ 4294967283 → Fitting 10 0 0 number 0 d
   unfolding isPacket wholeFields phaseSize codeSize totalSize
   data-fits d h = record {
     known = refl;
@@ -86,7 +86,7 @@ module _ (number : ℕ) (n : number < 256 ^ 4) where
     total-fits = lit≤ tt;
   }
 
-  pub end-fits : (d : List ℕ) → length d ≤ 4294967283 → Fitting 12 0 0 number 0 d
+  end-fits : (d : List ℕ) → length d ≤ 4294967283 → Fitting 12 0 0 number 0 d
   unfolding isPacket wholeFields phaseSize codeSize totalSize
   end-fits d h = record {
     known = refl;
@@ -240,7 +240,7 @@ module _ (t : Transaction) (f : Fits t) where
         (rw place at after, here .1)
 
     -- without data
-    pub came-bare : t .payload ≡ none → s ≡ requestWord phase t ++ responseWord t → fromSaid s ≡ says (containersWord t)
+    came-bare : t .payload ≡ none → s ≡ requestWord phase t ++ responseWord t → fromSaid s ≡ says (containersWord t)
     unfolding folded dataIn
     came-bare l e =
         let b = request-behind (responseWord t) e in
@@ -252,7 +252,7 @@ module _ (t : Transaction) (f : Fits t) where
         said s _ all ∙ ap (λ v. fromJudged s v []) seen ∙ from-bytes s u [] refl refl refl (lit≤ tt) ∙ ap (λ v. says (containersWord v)) (seen-is s (18 + length (t .params)) 0 0 no-part false [] (b .1) (r .1) (sym l))
 
     -- with data, cut in any way
-    pub came-cut : (ds : List (List ℕ)) (last : List ℕ) → t .payload ≡ some (joined ds ++ last) → length (joined ds ++ last) ≤ 4294967283 →
+    came-cut : (ds : List (List ℕ)) (last : List ℕ) → t .payload ≡ some (joined ds ++ last) → length (joined ds ++ last) ≤ 4294967283 →
         s ≡ requestWord phase t ++ (startWord (t .number) (length (joined ds ++ last)) ++ (dataWords (t .number) ds ++ (endWord (t .number) last ++ responseWord t))) → fromSaid s ≡ says (containersWord t)
     unfolding folded dataIn
     came-cut ds last l small e =

@@ -6,18 +6,14 @@ use Prim.Native.Nat.{ℕ, _^_, _<_}
 use Rattle.layout.specs.Written.{says}
 use Rattle.wire.specs.Container.{containerWord}
 use Rattle.network.specs.Packet.{packetWord}
-use Rattle.network.specs.Transaction.{Transaction, Params, Fits, containersWord, dataContainer, phaseOf, frontWord, tidyWord}
+use Rattle.network.specs.Transaction.{Transaction, Params, Fits, frontContainers, containersWord, frontPackets, tidyWord}
 use Rattle.network.specs.Translated.{toSaid}
 use Rattle.network.specs.declared.translate.Direction.{Direction}
 use Rattle.network.proofs.ToComplete.{to-complete}
 
--- the containers before the Response
-abbrev pub frontContainers : Transaction → List ℕ
-frontContainers t = containerWord 1 (t .code) (t .number) (t .params) ++ dataContainer (t .code) (t .number) (t .payload)
-
 -- with any Response of its number behind them, the packets before the response are the same
 pub front-alone : (d : Direction) (t : Transaction) → Fits t → (response : ℕ) (results : List ℕ) → response < 256 ^ 2 → Params results →
-    toSaid d (frontContainers t ++ containerWord 3 response (t .number) results) ≡ says (frontWord (phaseOf d (t .payload)) (t .code) (t .number) (t .params) (t .payload) ++ packetWord 7 0 response (t .number) 0 results)
+    toSaid d (frontContainers t ++ containerWord 3 response (t .number) results) ≡ says (frontPackets d t ++ packetWord 7 0 response (t .number) 0 results)
 unfolding containersWord tidyWord
 front-alone d t f response results a r =
     let u : Transaction = record { code = t .code; number = t .number; params = t .params; payload = t .payload; response = response; results = results } in

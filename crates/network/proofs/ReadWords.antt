@@ -31,10 +31,10 @@ module _ (s : List ℕ) (h : Bytes s) (at k : ℕ) (there : k ≤ length s - at)
   cell-bytes : Bytes (take k (drop at s))
   cell-bytes = Bytes-take k (drop at s) (Bytes-drop at s h)
 
-  pub cell-small : number (take k (drop at s)) < 256 ^ k
+  cell-small : number (take k (drop at s)) < 256 ^ k
   cell-small = rw cell-length at (number-lt (take k (drop at s)) cell-bytes)
 
-  pub cell : Stands s at (at + k) (bytes k (number (take k (drop at s))))
+  cell : Stands s at (at + k) (bytes k (number (take k (drop at s))))
   cell = subst (Stands s at (at + k)) (sym (rw cell-length at (bytes-number (take k (drop at s)) cell-bytes))) (part-there s at k there)
 
 -- the number of k bytes that begins so many bytes behind a place

@@ -14,7 +14,7 @@ use Rattle.layout.specs.declared.Written.{Written}
 use Rattle.layout.proofs.laws.Did.{whole}
 use Rattle.layout.proofs.laws.Writing.{wrote-so}
 use Rattle.network.specs.Packet.{packetWord}
-use Rattle.network.specs.Transaction.{Transaction, Fits, dataWords, joined, Between, nothing, cut, Packets, phaseOf, dataPackets, frontWord, tidyWord}
+use Rattle.network.specs.Transaction.{Transaction, Fits, dataWords, joined, Between, nothing, cut, Packets, phaseOf, dataPackets, tidyWord}
 use Rattle.network.specs.Translated.{toSaid, fromSaid}
 use Rattle.network.specs.declared.translate.Direction.{Direction}
 use Rattle.network.specs.declared.translate.Direction.the-variants as direction
@@ -34,8 +34,8 @@ between-tidy number (some b) =
     subst (λ w. Between number (some b) (w ++ packetWord 12 0 0 number 0 b)) (append-nil start) (cut [] b)
 
 -- the tidy word is a word
-pub tidy-is : (d : Direction) (t : Transaction) → Fits t → Packets (tidyWord d t) t
-unfolding tidyWord frontWord
+tidy-is : (d : Direction) (t : Transaction) → Fits t → Packets (tidyWord d t) t
+unfolding tidyWord
 tidy-is d t f = record { fits = f; phase = phaseOf d (t .payload); phase-fits = phase-small d (t .payload); middle = dataPackets (t .number) (t .payload); between = between-tidy (t .number) (t .payload); word = refl }
 
 pub round-trip : (d : Direction) (s p : List ℕ) → Bytes s → toSaid d s ≡ says p → fromSaid p ≡ says s

@@ -4,9 +4,9 @@ use mathlib.Core.Path.{_≡_, refl, sym, ap, subst, _∙_}
 use mathlib.Core.Bool.{true, false}
 use mathlib.Core.List.{List, [], _∷_, _++_, append-assoc, append-nil}
 use mathlib.Core.Option.{Option, some, none}
-use Prim.Native.Nat.{ℕ, _+_, _%_, _^_, _≤_, _<_}
+use Prim.Native.Nat.{ℕ, _+_, _^_, _≤_, _<_}
 use native.Mathlib.Omega.{arith}
-use borrow.Author.Tests.{le-leb, eq-eqb}
+use borrow.Author.Tests.{eq-eqb}
 use lib.Dec.{eqb}
 use lib.ListN.{length, drop, length-append, length-drop}
 use lib.Seq.{drop-drop, drop-append-seam}
@@ -19,13 +19,13 @@ use Rattle.wire.proofs.laws.Contained.{container-length}
 use Rattle.wire.proofs.laws.ReadBack.{container-there, payload-there}
 use Rattle.network.specs.Transaction.{Transaction, Params, Fits, DataFits, Containers, dataContainer, containersWord, tidyWord}
 use Rattle.network.specs.Inner.{readings}
-use Rattle.network.specs.Translated.{fewWhole, itemsIn, folded, noneSeen, nextContainer, lookContainer, seenIn, toJudged, toSaid}
+use Rattle.network.specs.Translated.{fiveWhole, itemsIn, folded, noneSeen, nextContainer, lookContainer, seenIn, toJudged, toSaid}
 use Rattle.network.specs.declared.see.Seen.{Seen}
 use Rattle.network.specs.declared.see.Stage.the-variants as stage
 use Rattle.network.specs.declared.translate.Direction.{Direction}
 use Rattle.network.specs.declared.translate.Direction.the-variants as direction
 use Rattle.network.proofs.FromComplete.{Row, row-end, row-more}
-use Rattle.network.proofs.TranslatedLaws.{to-bytes}
+use Rattle.network.proofs.TranslatedLaws.{whole-five, to-bytes}
 
 abbrev boxed : ℕ → ℕ → ℕ → ℕ → ℕ → Container
 boxed at kind code number count = record { kind = kind; code = code; number = number; payload = record { start = at + 12; count = count } }
@@ -50,15 +50,15 @@ there s at kind code number payload behind k c n small e =
       rest = rw place (sym (drop-drop (length w) at s) ∙ ap (drop (length w)) e ∙ drop-append-seam w behind);
     }
 
-few-is : (ps : List ℕ) → Params ps → fewWhole (length ps) ≡ true
-few-is ps h = rw (le-leb (length ps) 20 (h .few), eq-eqb (length ps % 4) 0 (h .whole))
+few-is : (ps : List ℕ) → Params ps → fiveWhole (length ps) ≡ true
+few-is ps h = whole-five (length ps) (h .few, h .whole)
 
 said : (d : Direction) (s : List ℕ) (xs : List Container) → Row containerAt s 0 xs → toSaid d s ≡ toJudged d s (folded lookContainer noneSeen xs)
 unfolding toSaid itemsIn means
 said d s xs r = rw (r (length s) (omega arith))
 
 -- the transaction that containers are of, if any
-abbrev pub transactionIn : List ℕ → Transaction
+abbrev transactionIn : List ℕ → Transaction
 transactionIn s =
     seenIn s (folded lookContainer noneSeen (readings (itemsIn containerAt s))) (partOf s ((folded lookContainer noneSeen (readings (itemsIn containerAt s))) .payload))
 

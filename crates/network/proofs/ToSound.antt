@@ -8,8 +8,8 @@ use mathlib.Core.Option.{some, none}
 use Prim.Native.Nat.{ℕ, zero, suc, _-_, _%_, _≤_, _<_}
 use native.Mathlib.Numerals.{sub-one}
 use native.Mathlib.Omega.{arith}
-use borrow.Author.Tests.{le-leb, eq-eqb, eqb-true, leb-true, ltb-true, ltb-false}
-use lib.Dec.{leb, ltb, eqb}
+use borrow.Author.Tests.{eq-eqb, eqb-true, ltb-true, ltb-false}
+use lib.Dec.{ltb, eqb}
 use lib.ListN.{length}
 use lib.Seq.{take-all}
 use Rattle.layout.specs.Answer.{Answer, got, refused, Reader, pick, after, means, bare}
@@ -28,7 +28,7 @@ use Rattle.wire.specs.declared.container.Container.{Container}
 use Rattle.network.specs.Refusals.{TRANSACTION}
 use Rattle.network.specs.Transaction.{Transaction, Params, Containers, dataContainer, containersWord, tidyWord}
 use Rattle.network.specs.TransactionSays.{OneNumber, FiveWhole, SuchContainers, command-response, command-data-response}
-use Rattle.network.specs.Translated.{both, fewWhole, itemsFrom, itemsIn, folded, noneSeen, nextContainer, lookContainer, seenIn, toJudged, toSaid, saidOr, isAnswered}
+use Rattle.network.specs.Translated.{both, fiveWhole, itemsFrom, itemsIn, folded, noneSeen, nextContainer, lookContainer, seenIn, toJudged, toSaid, saidOr, isAnswered}
 use Rattle.network.specs.declared.see.Seen.{Seen}
 use Rattle.network.specs.declared.see.Stage.{Stage}
 use Rattle.network.specs.declared.see.Stage.the-variants as stage
@@ -36,6 +36,7 @@ use Rattle.network.specs.declared.translate.Direction.{Direction}
 use Rattle.network.proofs.PacketLaws.{held}
 use Rattle.network.proofs.ReadWords.{Boxed, container-word}
 use Rattle.network.proofs.SeenNumbers.{one-number-exactly}
+use Rattle.network.proofs.TranslatedLaws.{five-whole, whole-five}
 
 -- ── items, from the front ──
 
@@ -78,14 +79,6 @@ filled {s} {w} {n} st h = sym (take-all (length w) s (omega (arith, st .till))) 
 
 -- ── what such containers are ──
 
-five-whole : (n : ℕ) → fewWhole n ≡ true → FiveWhole n
-five-whole n e =
-    let (a, b) = held (leb n 20) (eqb (n % 4) 0) e in
-    (leb-true n 20 a, eqb-true (n % 4) 0 b)
-
-pub whole-five : (n : ℕ) → FiveWhole n → fewWhole n ≡ true
-whole-five n (few, whole) = rw (le-leb n 20 few, eq-eqb (n % 4) 0 whole)
-
 abbrev Over : Seen → List Container → Type 0
 Over t xs = isAnswered (folded lookContainer t xs .stage) ≡ true
 
@@ -109,18 +102,18 @@ data Last : List Container → Type 0 where
   last : (r : Container) → r .kind ≡ 3 → FiveWhole (r .payload .count) → Last (r ∷ [])
 
 -- where a Response may stand, this one does
-last-here : (x : Container) (xs : List Container) (t : Seen) → both (eqb (x .kind) 3) (fewWhole (x .payload .count)) ≡ true → lookContainer t x .stage ≡ stage.Answered → Over t (x ∷ xs) → Last (x ∷ xs)
+last-here : (x : Container) (xs : List Container) (t : Seen) → both (eqb (x .kind) 3) (fiveWhole (x .payload .count)) ≡ true → lookContainer t x .stage ≡ stage.Answered → Over t (x ∷ xs) → Last (x ∷ xs)
 unfolding folded
 last-here x xs t f e h =
-    let (k, few) = held (eqb (x .kind) 3) (fewWhole (x .payload .count)) f in
+    let (k, few) = held (eqb (x .kind) 3) (fiveWhole (x .payload .count)) f in
     rw (ended xs (lookContainer t x) e h) (last x (eqb-true (x .kind) 3 k) (five-whole (x .payload .count) few))
 
 last-of : (xs : List Container) (t : Seen) → t .stage ≡ stage.Whole → Over t xs → Last xs
 unfolding folded lookContainer nextContainer
 last-of [] t e h = not-over t stage.Whole e refl h
-last-of (x ∷ xs) t e h = go (both (eqb (x .kind) 3) (fewWhole (x .payload .count))) refl
+last-of (x ∷ xs) t e h = go (both (eqb (x .kind) 3) (fiveWhole (x .payload .count))) refl
   where
-    go : (b : Bool) → both (eqb (x .kind) 3) (fewWhole (x .payload .count)) ≡ b → Last (x ∷ xs)
+    go : (b : Bool) → both (eqb (x .kind) 3) (fiveWhole (x .payload .count)) ≡ b → Last (x ∷ xs)
     go true f = last-here x xs t f (rw (e, f)) h
     go false f = lost xs (lookContainer t x) (rw (e, f)) h
 
@@ -135,9 +128,9 @@ module _ (c : Container) (kind : c .kind ≡ 1) (few : FiveWhole (c .payload .co
   such-behind : (xs : List Container) (t : Seen) → t .code ≡ c .code → t .stage ≡ stage.Asked → Over t xs → SuchContainers (c ∷ xs)
   unfolding folded lookContainer nextContainer
   such-behind [] t code e h = not-over t stage.Asked e refl h
-  such-behind (x ∷ xs) t code e h = go (both (eqb (x .kind) 2) (eqb (x .code) (t .code))) refl (both (eqb (x .kind) 3) (fewWhole (x .payload .count))) refl
+  such-behind (x ∷ xs) t code e h = go (both (eqb (x .kind) 2) (eqb (x .code) (t .code))) refl (both (eqb (x .kind) 3) (fiveWhole (x .payload .count))) refl
     where
-      go : (b : Bool) → both (eqb (x .kind) 2) (eqb (x .code) (t .code)) ≡ b → (a : Bool) → both (eqb (x .kind) 3) (fewWhole (x .payload .count)) ≡ a → SuchContainers (c ∷ x ∷ xs)
+      go : (b : Bool) → both (eqb (x .kind) 2) (eqb (x .code) (t .code)) ≡ b → (a : Bool) → both (eqb (x .kind) 3) (fiveWhole (x .payload .count)) ≡ a → SuchContainers (c ∷ x ∷ xs)
       go true f a g =
           let (k, same) = held (eqb (x .kind) 2) (eqb (x .code) (t .code)) f in
           with-data x (eqb-true (x .kind) 2 k) (eqb-true (x .code) (t .code) same ∙ code) (last-of xs (lookContainer t x) (rw (e, f)) h)
@@ -147,11 +140,11 @@ module _ (c : Container) (kind : c .kind ≡ 1) (few : FiveWhole (c .payload .co
 pub such-seen : (xs : List Container) → Over noneSeen xs → SuchContainers xs
 unfolding folded lookContainer nextContainer
 such-seen [] h = not-over noneSeen stage.First refl refl h
-such-seen (x ∷ xs) h = go (both (eqb (x .kind) 1) (fewWhole (x .payload .count))) refl
+such-seen (x ∷ xs) h = go (both (eqb (x .kind) 1) (fiveWhole (x .payload .count))) refl
   where
-    go : (b : Bool) → both (eqb (x .kind) 1) (fewWhole (x .payload .count)) ≡ b → SuchContainers (x ∷ xs)
+    go : (b : Bool) → both (eqb (x .kind) 1) (fiveWhole (x .payload .count)) ≡ b → SuchContainers (x ∷ xs)
     go true f =
-        let (k, few) = held (eqb (x .kind) 1) (fewWhole (x .payload .count)) f in
+        let (k, few) = held (eqb (x .kind) 1) (fiveWhole (x .payload .count)) f in
         let one = eqb-true (x .kind) 1 k in
         such-behind x one (five-whole (x .payload .count) few) xs (lookContainer noneSeen x) (rw one) (rw f) h
     go false f = lost xs (lookContainer noneSeen x) (rw f) h

@@ -4,10 +4,10 @@ use mathlib.Core.Path.{_≡_, refl, sym, ap, _∙_}
 use mathlib.Core.Bool.{Bool, true, false}
 use mathlib.Core.List.{List, [], _∷_, _++_}
 use mathlib.Core.Option.{some, none}
-use Prim.Native.Nat.{ℕ, zero, suc, _+_, _≤_, _<_}
+use Prim.Native.Nat.{ℕ, zero, suc, _+_, _%_, _≤_, _<_}
 use native.Mathlib.Omega.{arith}
-use borrow.Author.Tests.{le-leb, lt-leb, eq-eqb, ne-eqb}
-use lib.Dec.{ltb}
+use borrow.Author.Tests.{le-leb, lt-leb, leb-true, eq-eqb, eqb-true, ne-eqb}
+use lib.Dec.{leb, ltb, eqb}
 use lib.ListN.{length, take, drop, length-append, length-drop}
 use lib.Seq.{length-take-le}
 use Rattle.layout.specs.Answer.{Told, Answer, got, refused, pick, after, means, bare}
@@ -21,15 +21,26 @@ use Rattle.wire.specs.Returned.{partOf}
 use Rattle.wire.proofs.laws.Contained.{container-length}
 use Rattle.network.specs.Refusals.{FIELDS, TRANSACTION}
 use Rattle.network.specs.Packet.{phaseSize, codeSize, totalSize, packetAt, packetWord}
-use Rattle.network.specs.Transaction.{phaseOf, dataPackets, frontWord, tidyWord, dataContainer, containersWord}
+use Rattle.network.specs.Transaction.{phaseOf, dataPackets, tidyWord, dataContainer, containersWord}
 use Rattle.network.specs.Inner.{dataOf, AllPackets, Within, phaseIf}
-use Rattle.network.specs.Translated.{itemsFrom, itemsIn, folded, noneSeen, lookContainer, lookPacket, pieceSize, dataIn, isAnswered, seenIn, toJudged, fromJudged, toSaid, fromSaid}
+use Rattle.network.specs.TransactionSays.{FiveWhole}
+use Rattle.network.specs.Translated.{fiveWhole, itemsFrom, itemsIn, folded, noneSeen, lookContainer, lookPacket, pieceSize, dataIn, isAnswered, seenIn, toJudged, fromJudged, toSaid, fromSaid}
 use Rattle.network.specs.declared.packet.Packet.{Packet}
 use Rattle.network.specs.declared.see.Seen.{Seen}
 use Rattle.network.specs.declared.translate.Direction.{Direction}
 use Rattle.network.specs.declared.translate.Direction.the-variants as direction
-use Rattle.network.proofs.PacketLaws.{Stood, packet-stands, piece-fits}
+use Rattle.network.proofs.PacketLaws.{held, Stood, packet-stands, piece-fits}
 use Rattle.network.proofs.PutLaws.{part-length, packet-length}
+
+-- ── at most five whole u32s, as a test and as a statement ──
+
+pub five-whole : (n : ℕ) → fiveWhole n ≡ true → FiveWhole n
+five-whole n e =
+    let (a, b) = held (leb n 20) (eqb (n % 4) 0) e in
+    (leb-true n 20 a, eqb-true (n % 4) 0 b)
+
+pub whole-five : (n : ℕ) → FiveWhole n → fiveWhole n ≡ true
+whole-five n (few, whole) = rw (le-leb n 20 few, eq-eqb (n % 4) 0 whole)
 
 -- ── how long ──
 
@@ -55,7 +66,7 @@ need-same false p l r = omega arith
 
 module _ (s : List ℕ) (t : Seen) (w : Within s t) where
   pub tidy-length : (d : Direction) → length (tidyWord d (seenIn s t (partOf s (t .payload)))) ≡ 32 + t .params .count + pick (t .has) (32 + t .payload .count) 0 + t .results .count
-  unfolding tidyWord frontWord phaseSize codeSize totalSize
+  unfolding tidyWord phaseSize codeSize totalSize
   tidy-length d =
       let middle = dataPackets (t .number) (pick (t .has) (some (partOf s (t .payload))) none) in
       let phase = phaseOf d (pick (t .has) (some (partOf s (t .payload))) none) in
@@ -142,7 +153,7 @@ module _ (d : Direction) (s : List ℕ) where
 abbrev Sums : List ℕ → Seen → List Packet → Type 0
 Sums s t xs = (folded lookPacket t xs) .sum ≡ t .sum + length (dataIn s xs)
 
-pub sum-is : (s : List ℕ) (n at : ℕ) (t : Seen) (xs : List Packet) (m : ℕ) → itemsFrom packetAt n s at ≡ got xs m → Sums s t xs
+sum-is : (s : List ℕ) (n at : ℕ) (t : Seen) (xs : List Packet) (m : ℕ) → itemsFrom packetAt n s at ≡ got xs m → Sums s t xs
 unfolding itemsFrom folded dataIn lookPacket after
 sum-is s zero at t xs m e = let is : xs ≡ [] = cc in rw is (omega arith)
 sum-is s (suc n) at t xs m e = go (λ next u ys f. sum-is s n next u ys m f) (ltb at (length s)) e

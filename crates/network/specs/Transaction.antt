@@ -44,8 +44,12 @@ unfoldable pub dataContainer : ℕ → ℕ → Option (List ℕ) → List ℕ
 dataContainer code number none = []
 dataContainer code number (some d) = containerWord 2 code number d
 
+-- all before the Response, of which no field stands in it
+abbrev pub frontContainers : Transaction → List ℕ
+frontContainers t = containerWord 1 (t .code) (t .number) (t .params) ++ dataContainer (t .code) (t .number) (t .payload)
+
 unfoldable pub containersWord : Transaction → List ℕ
-containersWord t = containerWord 1 (t .code) (t .number) (t .params) ++ dataContainer (t .code) (t .number) (t .payload) ++ containerWord 3 (t .response) (t .number) (t .results)
+containersWord t = frontContainers t ++ containerWord 3 (t .response) (t .number) (t .results)
 
 pub record Containers (s : List ℕ) (t : Transaction) : Type 0 where
   pub fits : Fits t
@@ -98,9 +102,9 @@ unfoldable pub dataPackets : ℕ → Option (List ℕ) → List ℕ
 dataPackets number none = []
 dataPackets number (some d) = startWord number (length d) ++ endWord number d
 
--- all before the response, in which no field of the Response stands
-unfoldable pub frontWord : ℕ → ℕ → ℕ → List ℕ → Option (List ℕ) → List ℕ
-frontWord phase code number params payload = packetWord 6 phase code number 0 params ++ dataPackets number payload
+-- all before the response, of which no field stands in it
+abbrev pub frontPackets : Direction → Transaction → List ℕ
+frontPackets d t = requestWord (phaseOf d (t .payload)) t ++ dataPackets (t .number) (t .payload)
 
 unfoldable pub tidyWord : Direction → Transaction → List ℕ
-tidyWord d t = frontWord (phaseOf d (t .payload)) (t .code) (t .number) (t .params) (t .payload) ++ responseWord t
+tidyWord d t = frontPackets d t ++ responseWord t

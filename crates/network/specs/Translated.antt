@@ -56,15 +56,15 @@ abbrev pub both : Bool → Bool → Bool
 both a b = pick a b false
 
 -- a parameter payload: at most five whole u32s
-abbrev pub fewWhole : ℕ → Bool
-fewWhole n = both (leb n 20) (eqb (n % 4) 0)
+abbrev pub fiveWhole : ℕ → Bool
+fiveWhole n = both (leb n 20) (eqb (n % 4) 0)
 
 -- Command, then at most one Data with the Command's code, then Response, and no more
 unfoldable pub nextContainer : Stage → ℕ → ℕ → ℕ → ℕ → Stage
-nextContainer stage.First ours kind code count = pick (both (eqb kind 1) (fewWhole count)) stage.Asked stage.Not
-nextContainer stage.Asked ours kind code count = pick (both (eqb kind 2) (eqb code ours)) stage.Whole (pick (both (eqb kind 3) (fewWhole count)) stage.Answered stage.Not)
+nextContainer stage.First ours kind code count = pick (both (eqb kind 1) (fiveWhole count)) stage.Asked stage.Not
+nextContainer stage.Asked ours kind code count = pick (both (eqb kind 2) (eqb code ours)) stage.Whole (pick (both (eqb kind 3) (fiveWhole count)) stage.Answered stage.Not)
 nextContainer stage.Started ours kind code count = stage.Not
-nextContainer stage.Whole ours kind code count = pick (both (eqb kind 3) (fewWhole count)) stage.Answered stage.Not
+nextContainer stage.Whole ours kind code count = pick (both (eqb kind 3) (fiveWhole count)) stage.Answered stage.Not
 nextContainer stage.Answered ours kind code count = stage.Not
 nextContainer stage.Not ours kind code count = stage.Not
 

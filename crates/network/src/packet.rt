@@ -89,7 +89,7 @@ fn whole_fields(kind: u32, len: usize) -> bool
     true
 }
 
-// The packet that is whole.
+// The packet that is whole. Its widths are known when the program runs, so `wire`'s number of any width is taken.
 fn packet_in(s: &[u8], at: usize, kind: u32, len: usize) -> Packet
     requires { ⌜ (headSize kind ≤ len) × (at + len ≤ length (now s)) ⌝ }
     ensures { λ r. ⌜ r ≡ packetIn (now (s .entry)) at kind len ⌝ }
@@ -127,6 +127,7 @@ fn packet_rest(s: &[u8], at: usize, len: usize, kind: u32) -> ReadPacket
     ReadPacket::Got(packet_in(s, at, kind, len), Cursor { at: at + len })
 }
 
+// The packet at a place.
 pub fn read_packet(s: &[u8], c: Cursor) -> ReadPacket
     ensures { λ r. ⌜ saysPacket r ≡ packetAt (now (s .entry)) (c .at) ⌝ }
 {

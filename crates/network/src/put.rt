@@ -19,6 +19,7 @@ use crate::see;
 use wire::Cursor;
 use wire::Part;
 
+// A packet of any kind; a field that the kind has not takes no bytes.
 pub(crate) fn put_packet(
     out: &mut [u8],
     at: usize,
@@ -63,8 +64,15 @@ pub(crate) fn put_data(
     put_packet(out, a, 12, 0, 0, number, 0, s, body)
 }
 
-// A container's twelve bytes before its payload.
-fn put_head(out: &mut [u8], at: usize, kind: u64, code: u64, number: u64, count: usize) -> usize
+// A container's twelve bytes before its payload. The payload that packets bring comes in pieces, so they are written apart from it.
+fn put_container_head(
+    out: &mut [u8],
+    at: usize,
+    kind: u64,
+    code: u64,
+    number: u64,
+    count: usize,
+) -> usize
     requires { ⌜ at + (12 + count) ≤ length (now out) ⌝ }
     ensures { λ r. ⌜ Put (now (out .entry)) at (bytes 4 (12 + count) ++ bytes 2 kind ++ bytes 2 code ++ bytes 4 number) (now (out .exit)) r ⌝ }
 {
@@ -87,7 +95,7 @@ pub(crate) fn put_container(
     requires { ⌜ (body .start + body .count ≤ length (now s)) × (at + (12 + body .count) ≤ length (now out)) ⌝ }
     ensures { λ r. ⌜ Put (now (out .entry)) at (containerWord kind code number (partOf (now (s .entry)) body)) (now (out .exit)) r ⌝ }
 {
-    let a = put_head(out, at, kind, code, number, body.count);
+    let a = put_container_head(out, at, kind, code, number, body.count);
     layout::copy(s, body.start, body.count, out, a)
 }
 
@@ -104,7 +112,7 @@ fn put_pieces(s: &[u8], out: &mut [u8], at: usize) -> usize
                 o = layout::copy(s, x.body.start, see::piece_size(x), out, o);
                 i = next.at;
             }
-            // never: all are packets
+            // Never: all are packets.
             ReadPacket::Refused(_) => {
                 return o;
             }
@@ -129,11 +137,11 @@ pub(crate) fn put_joined(
     if !has {
         return at;
     }
-    let a = put_head(out, at, 2, code, number, sum);
+    let a = put_container_head(out, at, 2, code, number, sum);
     put_pieces(s, out, a)
 }
 
-// Whether there is room for all of them.
+// Whether the four together have room. Their sum may not fit a usize, so each is taken from what is left.
 pub(crate) fn has_room(room: usize, k: usize, a: usize, b: usize, c: usize) -> bool
     ensures { λ r. ⌜ r ≡ leb (k + a + b + c) room ⌝ }
 {

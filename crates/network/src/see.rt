@@ -1,11 +1,12 @@
-// What is seen of a transaction's items, read from the front to the end.
+// What is seen of a transaction's items, read from the front to the end. Nothing is judged here: a row of items that is no transaction ends in the stage `Not`,
+// and what to refuse is decided behind the last item.
 ghost use mathlib.Core.Path.{_≡_};
 ghost use Prim.Native.Nat.{_+_, _<_, _^_};
 ghost use Rattle.layout.specs.Answer.{pick};
 ghost use Rattle.wire.specs.Container.{containerAt};
 ghost use Rattle.network.specs.Packet.{packetAt};
 ghost use Rattle.network.specs.Inner.{Sees};
-ghost use Rattle.network.specs.Translated.{noneSeen, both, fewWhole, nextContainer, nextPacket, noted, pieceSize, lookContainer, lookPacket};
+ghost use Rattle.network.specs.Translated.{noneSeen, both, fiveWhole, nextContainer, nextPacket, noted, pieceSize, lookContainer, lookPacket};
 use crate::packet;
 use crate::packet::Packet;
 use crate::packet::ReadPacket;
@@ -15,6 +16,7 @@ use wire::Cursor;
 use wire::Part;
 use wire::ReadContainer;
 
+// How far a row of items is a transaction: nothing yet; a Command or request; start data; all data; a Response; or it is none.
 pub(crate) enum Stage {
     First,
     Asked,
@@ -24,7 +26,8 @@ pub(crate) enum Stage {
     Not,
 }
 
-// The fields of the last item of their kind. `load` is a Data container's payload, and `total` and `sum` are of packets.
+// The fields of the last item of their kind: `code`, `number` and `params` of the Command, `response` and `results` of the Response. `payload` is a Data container's,
+// `total` what start data announces, and `sum` the bytes of data and end data. `same`: all have the Command's number. `has`: there are data.
 pub(crate) struct Seen {
     pub stage: Stage,
     pub same: bool,
@@ -39,11 +42,13 @@ pub(crate) struct Seen {
     pub sum: usize,
 }
 
+// All items and the place after them, or the first refusal.
 pub(crate) enum Sight {
     Whole(Seen, Cursor),
     Refused(Refusal),
 }
 
+// Choices are calls, so that a turn of a loop has no branch and its proof no cases.
 fn and(a: bool, b: bool) -> bool
     ensures { λ r. ⌜ r ≡ both a b ⌝ }
 {
@@ -80,22 +85,24 @@ fn bool_if(test: bool, x: bool, y: bool) -> bool
     if test { x } else { y }
 }
 
-fn few_whole(n: usize) -> bool
-    ensures { λ r. ⌜ r ≡ fewWhole n ⌝ }
+// A parameter payload: at most five whole u32s.
+fn five_whole(n: usize) -> bool
+    ensures { λ r. ⌜ r ≡ fiveWhole n ⌝ }
 {
     and(n <= 20, n % 4 == 0)
 }
 
+// Command, then at most one Data with the Command's code, then Response, and no more.
 fn next_container(k: Stage, ours: u64, kind: u16, code: u64, count: usize) -> Stage
     ensures { λ r. ⌜ r ≡ nextContainer k ours kind code count ⌝ }
 {
     let answers = stage_if(
-        and(kind == 3, few_whole(count)),
+        and(kind == 3, five_whole(count)),
         Stage::Answered,
         Stage::Not,
     );
     match k {
-        Stage::First => stage_if(and(kind == 1, few_whole(count)), Stage::Asked, Stage::Not),
+        Stage::First => stage_if(and(kind == 1, five_whole(count)), Stage::Asked, Stage::Not),
         Stage::Asked => stage_if(and(kind == 2, code == ours), Stage::Whole, answers),
         Stage::Started => Stage::Not,
         Stage::Whole => answers,
@@ -104,6 +111,7 @@ fn next_container(k: Stage, ours: u64, kind: u16, code: u64, count: usize) -> St
     }
 }
 
+// Request and response; or request, start data, data packets, end data, response.
 fn next_packet(k: Stage, kind: u32, count: usize) -> Stage
     ensures { λ r. ⌜ r ≡ nextPacket k kind count ⌝ }
 {
@@ -122,7 +130,7 @@ fn next_packet(k: Stage, kind: u32, count: usize) -> Stage
     }
 }
 
-// One more item.
+// One more item, of which `more` bytes are data: the Command (`asks`), what begins the data (`holds`), the Response (`answers`), or none of them.
 fn note(
     next: Stage,
     asks: bool,
@@ -179,6 +187,7 @@ fn look_container(t: Seen, x: Container) -> Seen
     )
 }
 
+// How many bytes of data a packet has.
 pub(crate) fn piece_size(x: Packet) -> usize
     ensures { λ r. ⌜ r ≡ pieceSize x ⌝ }
 {

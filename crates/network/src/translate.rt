@@ -34,6 +34,7 @@ fn is_answered(k: Stage) -> bool
     }
 }
 
+// The data phase: 1 without data or from the camera, 2 to it.
 fn phase_of(d: Direction, has: bool) -> u64
     ensures { λ r. ⌜ r ≡ phaseIf d has ⌝ }
 {
@@ -68,7 +69,7 @@ fn put_packets(s: &[u8], d: Direction, t: Seen, out: &mut [u8]) -> usize
     put::put_packet(out, b, 7, 0, t.response, t.number, 0, s, results)
 }
 
-// What was seen, in the order of the tests.
+// What was seen, in the order of the tests: 22, 7, then 9.
 fn write_packets(s: &[u8], d: Direction, t: Seen, out: &mut [u8]) -> Written
     requires { ⌜ Within (now s) t ⌝ }
     ensures { λ r. ⌜ Wrote (toJudged d (now (s .entry)) t) (now (out .entry)) (saysWritten r) (now (out .exit)) ⌝ }
@@ -95,6 +96,7 @@ fn write_packets(s: &[u8], d: Direction, t: Seen, out: &mut [u8]) -> Written
     Written::Done(put_packets(s, d, t, out))
 }
 
+// One transaction's containers as packets: start data and end data for its Data, and all data in end data.
 pub fn to_network(s: &[u8], d: Direction, out: &mut [u8]) -> Written
     ensures { λ r. ⌜ Wrote (toSaid d (now (s .entry))) (now (out .entry)) (saysWritten r) (now (out .exit)) ⌝ }
 {
@@ -115,6 +117,7 @@ fn put_containers(s: &[u8], t: Seen, out: &mut [u8]) -> usize
     put::put_container(out, b, 3, t.response, t.number, s, results)
 }
 
+// The same, back: 22, 21, 7, 10, then 9.
 fn write_containers(s: &[u8], t: Seen, out: &mut [u8]) -> Written
     requires { ⌜ Within (now s) t × AllPackets (now s) × (t .sum ≡ length (dataOf (now s))) ⌝ }
     ensures { λ r. ⌜ Wrote (fromJudged (now (s .entry)) t (dataOf (now (s .entry)))) (now (out .entry)) (saysWritten r) (now (out .exit)) ⌝ }
@@ -146,6 +149,7 @@ fn write_containers(s: &[u8], t: Seen, out: &mut [u8]) -> Written
     Written::Done(put_containers(s, t, out))
 }
 
+// One transaction's packets as containers: data packets of any lengths join into one Data.
 pub fn from_network(s: &[u8], out: &mut [u8]) -> Written
     ensures { λ r. ⌜ Wrote (fromSaid (now (s .entry))) (now (out .entry)) (saysWritten r) (now (out .exit)) ⌝ }
 {

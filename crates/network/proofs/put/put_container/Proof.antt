@@ -14,7 +14,7 @@ returns c =
     let s = now (a .s) in
     let n = a .body .count in
     let long = part-length s (a .body) (c .before .before .before .before .before .before .before .before .before .before .pre .0) in
-    let p = c .before .before .before .before .before .before .put-head .ensures in
+    let p = c .before .before .before .before .before .before .put-container-head .ensures in
     let room = room-left p n (omega (arith, c .before .before .before .before .before .before .before .before .before .before .pre .1, head-length (a .kind) (a .code) (a .number) n)) in
     box-put (a .kind) (a .code) (a .number) n long p (first {bs = partOf s (a .body)} (omega arith) (c .before .before .copy .ensures))
 

@@ -10,13 +10,13 @@ returns : tie.Need-returns
 unfolding nextContainer
 returns c =
     let e : c .before .before .before .before .before .before .before .before .args .k ≡ stage.First = cc in
-    rw (e, c .stage-if2 .ensures, c .before .and2 .ensures, c .before .before .few-whole2 .ensures)
+    rw (e, c .stage-if2 .ensures, c .before .and2 .ensures, c .before .before .five-whole2 .ensures)
 
 returns-2 : tie.Need-returns-2
 unfolding nextContainer
 returns-2 c =
     let e : c .before .before .before .before .before .before .before .args .k ≡ stage.Asked = cc in
-    rw (e, c .stage-if3 .ensures, c .before .and3 .ensures, c .before .before .before .before .stage-if .ensures, c .before .before .before .before .before .and .ensures, c .before .before .before .before .before .before .few-whole .ensures)
+    rw (e, c .stage-if3 .ensures, c .before .and3 .ensures, c .before .before .before .before .stage-if .ensures, c .before .before .before .before .before .and .ensures, c .before .before .before .before .before .before .five-whole .ensures)
 
 returns-3 : tie.Need-returns-3
 unfolding nextContainer
@@ -28,7 +28,7 @@ returns-4 : tie.Need-returns-4
 unfolding nextContainer
 returns-4 c =
     let e : c .before .before .before .before .before .args .k ≡ stage.Whole = cc in
-    rw (e, c .before .before .stage-if .ensures, c .before .before .before .and .ensures, c .before .before .before .before .few-whole .ensures)
+    rw (e, c .before .before .stage-if .ensures, c .before .before .before .and .ensures, c .before .before .before .before .five-whole .ensures)
 
 returns-5 : tie.Need-returns-5
 unfolding nextContainer

@@ -8,7 +8,7 @@ use Rattle.layout.specs.Answer.{pick}
 use Rattle.layout.proofs.laws.Writing.{then, long}
 use Rattle.wire.specs.Returned.{partOf}
 use Rattle.network.specs.Packet.{phaseSize, codeSize, totalSize}
-use Rattle.network.specs.Transaction.{tidyWord, frontWord}
+use Rattle.network.specs.Transaction.{tidyWord}
 use Rattle.network.proofs.PutLaws.{part-length, packet-length}
 use Rattle.network.proofs.TranslatedLaws.{phase-if, data-packets-length}
 use borrow.Author.Needs.{needs}
@@ -40,7 +40,7 @@ put-packet-requires-2 c κs =
     (w .results, omega (arith, c .before .before .before .before .before .before .before .before .before .before .before .before .before .before .before .pre .1, (c .before .before .before .put-data .ensures) .place, long p, (c .before .before .before .before .before .before .before .put-packet .ensures) .place, l, data-packets-length (a .t .number) (a .t .has) (partOf s (a .t .payload)), packet-length 6 (c .before .before .before .before .before .before .before .before .phase-of .result) (a .t .code) (a .t .number) 0 (partOf s (a .t .params)), part-length s (a .t .params) (w .params)))
 
 returns : tie.Need-returns
-unfolding tidyWord frontWord
+unfolding tidyWord
 returns c =
     let a = c .before .before .before .before .before .before .before .before .before .before .before .before .before .before .before .before .before .before .args in
     let s = now (a .s) in
