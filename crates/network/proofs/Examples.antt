@@ -65,6 +65,11 @@ no-payload : toSaid direction.Out (12 ∷ 0 ∷ 0 ∷ 0 ∷ 1 ∷ 0 ∷ 1 ∷ 16
 unfolding toSaid toJudged itemsIn itemsFrom folded lookContainer nextContainer means after containerAt headerAt headerRest isKind fieldAt spanAt bytes number packetWord phaseSize codeSize totalSize tidyWord dataPackets
 no-payload = refl
 
+-- a sixth parameter of a Command
+six-in-a-command : toSaid direction.In (36 ∷ 0 ∷ 0 ∷ 0 ∷ 1 ∷ 0 ∷ 1 ∷ 16 ∷ 1 ∷ 0 ∷ 0 ∷ 0 ∷ 0 ∷ 0 ∷ 0 ∷ 0 ∷ 0 ∷ 0 ∷ 0 ∷ 0 ∷ 0 ∷ 0 ∷ 0 ∷ 0 ∷ 0 ∷ 0 ∷ 0 ∷ 0 ∷ 0 ∷ 0 ∷ 0 ∷ 0 ∷ 0 ∷ 0 ∷ 0 ∷ 0 ∷ 12 ∷ 0 ∷ 0 ∷ 0 ∷ 3 ∷ 0 ∷ 1 ∷ 32 ∷ 1 ∷ 0 ∷ 0 ∷ 0 ∷ []) ≡ no (bare 22)
+unfolding toSaid toJudged itemsIn itemsFrom folded lookContainer nextContainer means after containerAt headerAt headerRest isKind fieldAt spanAt bytes number packetWord phaseSize codeSize totalSize tidyWord dataPackets
+six-in-a-command = refl
+
 -- no bytes at all
 nothing : toSaid direction.In [] ≡ no (bare 22)
 unfolding toSaid toJudged itemsIn itemsFrom folded lookContainer nextContainer means after containerAt headerAt headerRest isKind fieldAt spanAt bytes number packetWord phaseSize codeSize totalSize tidyWord dataPackets
