@@ -30,6 +30,7 @@ use Rattle.network.specs.declared.see.Stage.the-variants as stage
 use Rattle.network.proofs.PacketLaws.{held}
 use Rattle.network.proofs.PutLaws.{packet-length}
 use Rattle.network.proofs.ReadWords.{Packed, packet-word}
+use Rattle.network.proofs.SeenStages as stages
 use Rattle.network.proofs.SeenNumbers as numbers
 use Rattle.network.proofs.ToSound.{items-cons, items-nil, filled}
 
@@ -38,20 +39,13 @@ use Rattle.network.proofs.ToSound.{items-cons, items-nil, filled}
 abbrev Over : Seen → List Packet → Type 0
 Over t xs = isAnswered (folded lookPacket t xs .stage) ≡ true
 
--- before the response it is not over
-not-over : {X : Type 0} (t : Seen) (k : Stage) → t .stage ≡ k → isAnswered k ≡ false → Over t [] → X
-unfolding folded
-not-over t k e f h = let g : _≡_ {A = Bool} false true = sym (ap isAnswered e ∙ f) ∙ h in zero-one (cc)
+stays : (t : Seen) (x : Packet) → t .stage ≡ stage.Not → lookPacket t x .stage ≡ stage.Not
+unfolding lookPacket nextPacket
+stays t x e = rw e
 
-lost : {X : Type 0} (xs : List Packet) (t : Seen) → t .stage ≡ stage.Not → Over t xs → X
-unfolding folded lookPacket nextPacket
-lost [] t e h = not-over t stage.Not e refl h
-lost (x ∷ xs) t e h = lost xs (lookPacket t x) (rw e) h
-
-ended : (xs : List Packet) (t : Seen) → t .stage ≡ stage.Answered → Over t xs → xs ≡ []
-unfolding folded lookPacket nextPacket
-ended [] t e h = refl
-ended (x ∷ xs) t e h = lost xs (lookPacket t x) (rw e) h
+stops : (t : Seen) (x : Packet) → t .stage ≡ stage.Answered → lookPacket t x .stage ≡ stage.Not
+unfolding lookPacket nextPacket
+stops t x e = rw e
 
 -- a response and no more
 data Last : List Packet → Type 0 where
@@ -62,20 +56,20 @@ last-here : (x : Packet) (xs : List Packet) (t : Seen) → both (eqb (x .kind) 7
 unfolding folded
 last-here x xs t f e h =
     let (k, few) = held (eqb (x .kind) 7) (leb (x .body .count) 20) f in
-    rw (ended xs (lookPacket t x) e h) (last x (eqb-true (x .kind) 7 k) (leb-true (x .body .count) 20 few))
+    rw (stages.ended lookPacket stays stops xs (lookPacket t x) e h) (last x (eqb-true (x .kind) 7 k) (leb-true (x .body .count) 20 few))
 
 last-of : (xs : List Packet) (t : Seen) → t .stage ≡ stage.Whole → Over t xs → Last xs
 unfolding folded lookPacket nextPacket
-last-of [] t e h = not-over t stage.Whole e refl h
+last-of [] t e h = stages.not-over lookPacket stays stops t stage.Whole e refl h
 last-of (x ∷ xs) t e h = go (both (eqb (x .kind) 7) (leb (x .body .count) 20)) refl
   where
     go : (b : Bool) → both (eqb (x .kind) 7) (leb (x .body .count) 20) ≡ b → Last (x ∷ xs)
     go true f = last-here x xs t f (rw (e, f)) h
-    go false f = lost xs (lookPacket t x) (rw (e, f)) h
+    go false f = stages.lost lookPacket stays stops xs (lookPacket t x) (rw (e, f)) h
 
 data-of : (xs : List Packet) (t : Seen) → t .stage ≡ stage.Started → Over t xs → DataAndResponse xs
 unfolding folded lookPacket nextPacket
-data-of [] t e h = not-over t stage.Started e refl h
+data-of [] t e h = stages.not-over lookPacket stays stops t stage.Started e refl h
 data-of (x ∷ xs) t e h = go (λ i. data-of xs (lookPacket t x) i h) (eqb (x .kind) 10) refl (eqb (x .kind) 12) refl
   where
     at-end : x .kind ≡ 12 → {ys : List Packet} → Last ys → DataAndResponse (x ∷ ys)
@@ -84,7 +78,7 @@ data-of (x ∷ xs) t e h = go (λ i. data-of xs (lookPacket t x) i h) (eqb (x .k
     go : (lookPacket t x .stage ≡ stage.Started → DataAndResponse xs) → (a : Bool) → eqb (x .kind) 10 ≡ a → (b : Bool) → eqb (x .kind) 12 ≡ b → DataAndResponse (x ∷ xs)
     go again true f b g = data-packet (eqb-true (x .kind) 10 f) (again (rw (e, f)))
     go again false f true g = at-end (eqb-true (x .kind) 12 g) (last-of xs (lookPacket t x) (rw (e, f, g)) h)
-    go again false f false g = lost xs (lookPacket t x) (rw (e, f, g)) h
+    go again false f false g = stages.lost lookPacket stays stops xs (lookPacket t x) (rw (e, f, g)) h
 
 -- behind the request
 module _ (q : Packet) (kind : q .kind ≡ 6) (few : q .body .count ≤ 20) where
@@ -93,24 +87,24 @@ module _ (q : Packet) (kind : q .kind ≡ 6) (few : q .body .count ≤ 20) where
 
   such-behind : (xs : List Packet) (t : Seen) → t .stage ≡ stage.Asked → Over t xs → SuchPackets (q ∷ xs)
   unfolding folded lookPacket nextPacket
-  such-behind [] t e h = not-over t stage.Asked e refl h
+  such-behind [] t e h = stages.not-over lookPacket stays stops t stage.Asked e refl h
   such-behind (x ∷ xs) t e h = go (eqb (x .kind) 9) refl (both (eqb (x .kind) 7) (leb (x .body .count) 20)) refl
     where
       go : (a : Bool) → eqb (x .kind) 9 ≡ a → (b : Bool) → both (eqb (x .kind) 7) (leb (x .body .count) 20) ≡ b → SuchPackets (q ∷ x ∷ xs)
       go true f b g = request-data-response kind few (eqb-true (x .kind) 9 f) (data-of xs (lookPacket t x) (rw (e, f)) h)
       go false f true g = with-response (last-here x xs t g (rw (e, f, g)) h)
-      go false f false g = lost xs (lookPacket t x) (rw (e, f, g)) h
+      go false f false g = stages.lost lookPacket stays stops xs (lookPacket t x) (rw (e, f, g)) h
 
 pub such-seen : (xs : List Packet) → Over noneSeen xs → SuchPackets xs
 unfolding folded lookPacket nextPacket
-such-seen [] h = not-over noneSeen stage.First refl refl h
+such-seen [] h = stages.not-over lookPacket stays stops noneSeen stage.First refl refl h
 such-seen (x ∷ xs) h = go (both (eqb (x .kind) 6) (leb (x .body .count) 20)) refl
   where
     go : (b : Bool) → both (eqb (x .kind) 6) (leb (x .body .count) 20) ≡ b → SuchPackets (x ∷ xs)
     go true f =
         let (k, few) = held (eqb (x .kind) 6) (leb (x .body .count) 20) f in
         such-behind x (eqb-true (x .kind) 6 k) (leb-true (x .body .count) 20 few) xs (lookPacket noneSeen x) (rw f) h
-    go false f = lost xs (lookPacket noneSeen x) (rw f) h
+    go false f = stages.lost lookPacket stays stops xs (lookPacket noneSeen x) (rw f) h
 
 data-over : {xs : List Packet} (t : Seen) → t .stage ≡ stage.Started → DataAndResponse xs → Over t xs
 unfolding folded lookPacket nextPacket

@@ -7,6 +7,7 @@ pub mod ReadWords
 pub mod ItemsLaws
 pub mod SeenLoop
 pub mod SeenNumbers
+pub mod SeenStages
 pub mod PutLaws
 pub mod TranslatedLaws
 pub mod FromComplete

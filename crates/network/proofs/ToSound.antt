@@ -35,6 +35,7 @@ use Rattle.network.specs.declared.see.Stage.the-variants as stage
 use Rattle.network.specs.declared.translate.Direction.{Direction}
 use Rattle.network.proofs.PacketLaws.{held}
 use Rattle.network.proofs.ReadWords.{Boxed, container-word}
+use Rattle.network.proofs.SeenStages as stages
 use Rattle.network.proofs.SeenNumbers.{one-number-exactly}
 use Rattle.network.proofs.TranslatedLaws.{five-whole, whole-five}
 
@@ -82,20 +83,13 @@ filled {s} {w} {n} st h = sym (take-all (length w) s (omega (arith, st .till))) 
 abbrev Over : Seen → List Container → Type 0
 Over t xs = isAnswered (folded lookContainer t xs .stage) ≡ true
 
--- before the Response it is not over
-not-over : {X : Type 0} (t : Seen) (k : Stage) → t .stage ≡ k → isAnswered k ≡ false → Over t [] → X
-unfolding folded
-not-over t k e f h = let g : _≡_ {A = Bool} false true = sym (ap isAnswered e ∙ f) ∙ h in zero-one (cc)
+stays : (t : Seen) (x : Container) → t .stage ≡ stage.Not → lookContainer t x .stage ≡ stage.Not
+unfolding lookContainer nextContainer
+stays t x e = rw e
 
-lost : {X : Type 0} (xs : List Container) (t : Seen) → t .stage ≡ stage.Not → Over t xs → X
-unfolding folded lookContainer nextContainer
-lost [] t e h = not-over t stage.Not e refl h
-lost (x ∷ xs) t e h = lost xs (lookContainer t x) (rw e) h
-
-ended : (xs : List Container) (t : Seen) → t .stage ≡ stage.Answered → Over t xs → xs ≡ []
-unfolding folded lookContainer nextContainer
-ended [] t e h = refl
-ended (x ∷ xs) t e h = lost xs (lookContainer t x) (rw e) h
+stops : (t : Seen) (x : Container) → t .stage ≡ stage.Answered → lookContainer t x .stage ≡ stage.Not
+unfolding lookContainer nextContainer
+stops t x e = rw e
 
 -- a Response and no more
 data Last : List Container → Type 0 where
@@ -106,16 +100,16 @@ last-here : (x : Container) (xs : List Container) (t : Seen) → both (eqb (x .k
 unfolding folded
 last-here x xs t f e h =
     let (k, few) = held (eqb (x .kind) 3) (fiveWhole (x .payload .count)) f in
-    rw (ended xs (lookContainer t x) e h) (last x (eqb-true (x .kind) 3 k) (five-whole (x .payload .count) few))
+    rw (stages.ended lookContainer stays stops xs (lookContainer t x) e h) (last x (eqb-true (x .kind) 3 k) (five-whole (x .payload .count) few))
 
 last-of : (xs : List Container) (t : Seen) → t .stage ≡ stage.Whole → Over t xs → Last xs
 unfolding folded lookContainer nextContainer
-last-of [] t e h = not-over t stage.Whole e refl h
+last-of [] t e h = stages.not-over lookContainer stays stops t stage.Whole e refl h
 last-of (x ∷ xs) t e h = go (both (eqb (x .kind) 3) (fiveWhole (x .payload .count))) refl
   where
     go : (b : Bool) → both (eqb (x .kind) 3) (fiveWhole (x .payload .count)) ≡ b → Last (x ∷ xs)
     go true f = last-here x xs t f (rw (e, f)) h
-    go false f = lost xs (lookContainer t x) (rw (e, f)) h
+    go false f = stages.lost lookContainer stays stops xs (lookContainer t x) (rw (e, f)) h
 
 -- behind the Command
 module _ (c : Container) (kind : c .kind ≡ 1) (few : FiveWhole (c .payload .count)) where
@@ -127,7 +121,7 @@ module _ (c : Container) (kind : c .kind ≡ 1) (few : FiveWhole (c .payload .co
 
   such-behind : (xs : List Container) (t : Seen) → t .code ≡ c .code → t .stage ≡ stage.Asked → Over t xs → SuchContainers (c ∷ xs)
   unfolding folded lookContainer nextContainer
-  such-behind [] t code e h = not-over t stage.Asked e refl h
+  such-behind [] t code e h = stages.not-over lookContainer stays stops t stage.Asked e refl h
   such-behind (x ∷ xs) t code e h = go (both (eqb (x .kind) 2) (eqb (x .code) (t .code))) refl (both (eqb (x .kind) 3) (fiveWhole (x .payload .count))) refl
     where
       go : (b : Bool) → both (eqb (x .kind) 2) (eqb (x .code) (t .code)) ≡ b → (a : Bool) → both (eqb (x .kind) 3) (fiveWhole (x .payload .count)) ≡ a → SuchContainers (c ∷ x ∷ xs)
@@ -135,11 +129,11 @@ module _ (c : Container) (kind : c .kind ≡ 1) (few : FiveWhole (c .payload .co
           let (k, same) = held (eqb (x .kind) 2) (eqb (x .code) (t .code)) f in
           with-data x (eqb-true (x .kind) 2 k) (eqb-true (x .code) (t .code) same ∙ code) (last-of xs (lookContainer t x) (rw (e, f)) h)
       go false f true g = with-response (last-here x xs t g (rw (e, f, g)) h)
-      go false f false g = lost xs (lookContainer t x) (rw (e, f, g)) h
+      go false f false g = stages.lost lookContainer stays stops xs (lookContainer t x) (rw (e, f, g)) h
 
 pub such-seen : (xs : List Container) → Over noneSeen xs → SuchContainers xs
 unfolding folded lookContainer nextContainer
-such-seen [] h = not-over noneSeen stage.First refl refl h
+such-seen [] h = stages.not-over lookContainer stays stops noneSeen stage.First refl refl h
 such-seen (x ∷ xs) h = go (both (eqb (x .kind) 1) (fiveWhole (x .payload .count))) refl
   where
     go : (b : Bool) → both (eqb (x .kind) 1) (fiveWhole (x .payload .count)) ≡ b → SuchContainers (x ∷ xs)
@@ -147,7 +141,7 @@ such-seen (x ∷ xs) h = go (both (eqb (x .kind) 1) (fiveWhole (x .payload .coun
         let (k, few) = held (eqb (x .kind) 1) (fiveWhole (x .payload .count)) f in
         let one = eqb-true (x .kind) 1 k in
         such-behind x one (five-whole (x .payload .count) few) xs (lookContainer noneSeen x) (rw one) (rw f) h
-    go false f = lost xs (lookContainer noneSeen x) (rw f) h
+    go false f = stages.lost lookContainer stays stops xs (lookContainer noneSeen x) (rw f) h
 
 pub seen-such : (xs : List Container) → SuchContainers xs → Over noneSeen xs
 unfolding folded lookContainer nextContainer

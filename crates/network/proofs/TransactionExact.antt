@@ -1,11 +1,13 @@
 -- Bytes are due exactly where they are a transaction's, and then its words on the other side; so however its data are cut, the same containers come.
 -- Assumes nothing.
-use mathlib.Core.Path.{_≡_, refl, sym, ap, _∙_}
+use mathlib.Core.Path.{_≡_, refl, sym, ap, subst, _∙_}
 use mathlib.Core.Logic.{_↔_}
 use mathlib.Core.List.{List}
 use Prim.Native.Nat.{ℕ}
 use Rattle.layout.specs.Bytes.{Bytes}
-use Rattle.layout.specs.Written.{says}
+use Rattle.layout.specs.Written.{says, Wrote, saysWritten}
+use Rattle.layout.specs.declared.Written.{Written}
+use Rattle.layout.proofs.laws.Determined.{one-written}
 use Rattle.network.specs.Transaction.{Transaction, Containers, containersWord, Packets, tidyWord}
 use Rattle.network.specs.Translated.{toSaid, fromSaid}
 use Rattle.network.specs.declared.translate.Direction.{Direction}
@@ -31,3 +33,7 @@ packets-one p t u x y =
 
 pub cuts-join : (p q : List ℕ) (t : Transaction) → Packets p t → Packets q t → fromSaid p ≡ fromSaid q
 cuts-join p q t x y = from-complete p t x ∙ sym (from-complete q t y)
+
+-- of the functions' own answers: with the same output before it, the same answer and the same output after it
+pub cuts-join-written : (p q : List ℕ) (t : Transaction) → Packets p t → Packets q t → (old new new′ : List ℕ) (a b : Written) → Wrote (fromSaid p) old (saysWritten a) new → Wrote (fromSaid q) old (saysWritten b) new′ → (a ≡ b) × (new ≡ new′)
+cuts-join-written p q t x y old new new′ a b u v = one-written (fromSaid p) old new new′ a b u (subst (λ said. Wrote said old (saysWritten b) new′) (sym (cuts-join p q t x y)) v)
