@@ -25,7 +25,6 @@ use Rattle.network.specs.TransactionSays.{Each, OneNumber, DataAndRespon
 use Rattle.network.specs.Translated.{both, itemsFrom, itemsIn, folded, noneSeen, nextPacket, pieceSize, lookPacket, dataIn, seenIn, fromJudged, fromSaid, saidOr, isAnswered}
 use Rattle.network.specs.declared.packet.Packet.{Packet}
 use Rattle.network.specs.declared.see.Seen.{Seen}
-use Rattle.network.specs.declared.see.Stage.{Stage}
 use Rattle.network.specs.declared.see.Stage.the-variants as stage
 use Rattle.network.proofs.PacketLaws.{held}
 use Rattle.network.proofs.PutLaws.{packet-length}

@@ -30,7 +30,6 @@ use Rattle.network.specs.Transaction.{Transaction, Params, Containers, d
 use Rattle.network.specs.TransactionSays.{OneNumber, FiveWhole, SuchContainers, command-response, command-data-response}
 use Rattle.network.specs.Translated.{both, fiveWhole, itemsFrom, itemsIn, folded, noneSeen, nextContainer, lookContainer, seenIn, toJudged, toSaid, saidOr, isAnswered}
 use Rattle.network.specs.declared.see.Seen.{Seen}
-use Rattle.network.specs.declared.see.Stage.{Stage}
 use Rattle.network.specs.declared.see.Stage.the-variants as stage
 use Rattle.network.specs.declared.translate.Direction.{Direction}
 use Rattle.network.proofs.PacketLaws.{held}
