@@ -6,6 +6,7 @@ mod dataset;
 mod mended;
 mod name;
 mod object_table;
+mod packet;
 mod payload;
 mod property;
 mod record;
