@@ -15,19 +15,23 @@ use Rattle.layout.specs.Placed.{Lies, Placed}
 use Rattle.layout.proofs.laws.Meets.{sound-at, complete-at}
 use Rattle.layout.proofs.laws.Words.{fits, part-there}
 use Rattle.wire.specs.Anywhere.{ExactAt}
+use Rattle.wire.specs.Codecs.{boxIn, boxParts}
+use Rattle.wire.specs.Container.{containerAt, saysContainer}
 use Rattle.wire.specs.Device.{saysDevice}
-use Rattle.wire.specs.Layout.{shape, Value, Row, device, object, storage, Property}
+use Rattle.wire.specs.Layout.{shape, Value, Row, device, object, storage, Property, Container}
 use Rattle.wire.specs.Object.{saysObject}
 use Rattle.wire.specs.Places.{valueAt, shapeIn, shapeParts, rowAt, rowIn, rowParts}
 use Rattle.wire.specs.Property.{propertyAt, saysProperty, propertyIn}
 use Rattle.wire.specs.Says.{saysValue}
 use Rattle.wire.specs.Storage.{saysStorage}
+use Rattle.wire.specs.declared.container.ReadContainer.{ReadContainer}
 use Rattle.wire.specs.declared.device.ReadDevice.{ReadDevice}
 use Rattle.wire.specs.declared.object.ReadObject.{ReadObject}
 use Rattle.wire.specs.declared.property.ReadProperty.{ReadProperty}
 use Rattle.wire.specs.declared.storage.ReadStorage.{ReadStorage}
 use Rattle.wire.specs.declared.value.ReadValue.{ReadValue}
 use Rattle.wire.proofs.Described.{properties, property-parts}
+use Rattle.wire.proofs.laws.Boxes.{container-format, boxes}
 use Rattle.wire.proofs.laws.Formats.{value-format, row-format, property-format}
 use Rattle.wire.proofs.laws.Located.{values, rows}
 
@@ -60,3 +64,6 @@ module _ (s : List ℕ) (h : Bytes s) (at : ℕ) where
 
   pub property-exact-at : (there : Bool) (r : ReadProperty) → saysProperty r ≡ propertyAt there s at → ExactAt (Property there) (propertyIn s) property-parts s at (saysProperty r)
   property-exact-at there r promised = exact-at (property-format there) (properties there) s h at (saysProperty r) promised
+
+  pub container-exact-at : (r : ReadContainer) → saysContainer r ≡ containerAt s at → ExactAt Container (boxIn s) boxParts s at (saysContainer r)
+  container-exact-at r promised = exact-at container-format boxes s h at (saysContainer r) promised

@@ -11,6 +11,7 @@ pub mod Nths
 pub mod Picked
 pub mod Judged
 pub mod ReadBack
+pub mod Boxes
 pub mod Told
 pub mod Grounds
 pub mod Kinds
