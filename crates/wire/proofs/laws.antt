@@ -12,6 +12,7 @@ pub mod Picked
 pub mod Judged
 pub mod ReadBack
 pub mod Boxes
+pub mod Exactly
 pub mod Told
 pub mod Grounds
 pub mod Kinds
