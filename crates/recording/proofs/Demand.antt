@@ -2,8 +2,8 @@
 -- Assumes nothing.
 use mathlib.Core.Path.{_≡_, refl, ap, sym, subst, _∙_}
 use mathlib.Core.Bool.{true}
-use mathlib.Core.Logic.{_↔_}
-use mathlib.Core.List.{List, [], _∷_, _++_, map}
+use mathlib.Core.Logic.{_↔_, inl, inr}
+use mathlib.Core.List.{List, map}
 use Prim.Native.Nat.{ℕ, _+_, _≤_, _<_}
 use native.Mathlib.Omega.{arith}
 use borrow.Author.Tests.{le-leb}
@@ -11,14 +11,15 @@ use lib.ListN.{length, take, drop, length-map}
 use Rattle.layout.specs.Answer.{Told, Answer, got, refused, means}
 use Rattle.layout.specs.Bytes.{Bytes, bytes}
 use Rattle.layout.specs.Faithful.{Prefix, Faithful, Exact}
-use Rattle.layout.specs.Grammar.{loose}
+use Rattle.layout.specs.Grammar.{loose, tidy}
 use Rattle.layout.specs.Placed as places
 use Rattle.layout.specs.Placed.{Lies, lies, nowhere}
+use Rattle.layout.specs.Refusals.{END, TEXT}
 use Rattle.layout.specs.Written.{says}
 use Rattle.layout.proofs.laws.Accepted.{Accepts, accepted}
 use Rattle.layout.proofs.laws.Meets.{faithful, reads-exactly}
 use Rattle.layout.proofs.laws.Numbers.{zero-one}
-use Rattle.layout.proofs.laws.Reading.{drop-take, refused-meant, unmeant}
+use Rattle.layout.proofs.laws.Reading.{drop-take, one-got, refused-meant, unmeant}
 use Rattle.layout.proofs.laws.Words.{self}
 use Rattle.wire.specs.Anywhere.{ExactAt}
 use Rattle.wire.specs.Codecs.{boxIn}
@@ -28,18 +29,21 @@ use Rattle.wire.specs.Returned.{partOf}
 use Rattle.wire.specs.declared.container.Container as declared
 use Rattle.wire.proofs.laws.Boxes.{box-said, said-box}
 use Rattle.wire.proofs.laws.Exactly.{exact-at}
-use Rattle.recording.specs.Codecs.{entryIn, recordParts, entry}
+use Rattle.recording.specs.Codecs.{entryIn, recordParts, entryWord, entry}
 use Rattle.recording.specs.Content as content
-use Rattle.recording.specs.Layout.{Entry, holds, note, longest, Record, held, noted, Recording, none, one-more}
+use Rattle.recording.specs.Copied.{moveTold}
+use Rattle.recording.specs.Layout.{Entry, holds, longest, Record, held, noted, Recording, none, one-more}
+use Rattle.recording.specs.Older.{AllRead}
 use Rattle.recording.specs.Record.{isWritten, recordAt, recordOf, recordWord, recordSaid, saysRecord}
 use Rattle.recording.specs.Recording.{saysRecording, Follows, Stops, Typed, Writes, nothing, and-one, NoNotes}
-use Rattle.recording.specs.Row.{rowOf}
+use Rattle.recording.specs.Row.{recordsIn, rowOf}
 use Rattle.recording.specs.declared.ReadRecord.{ReadRecord}
 use Rattle.recording.specs.declared.row.ReadRecording.{ReadRecording}
 use Rattle.recording.proofs.ReadBack.{due}
 use Rattle.recording.proofs.Recorded.{said-bytes}
-use Rattle.recording.proofs.Records.{content-there, record-format, record-parts}
-use Rattle.recording.proofs.Recordings.{recording-complete, recording-sound, follows, row-end, stops-row, row-stops, same-bytes}
+use Rattle.recording.proofs.Records.{content-there, record-format, record-parts, records-single}
+use Rattle.recording.proofs.Recordings.{recording-complete, recording-sound, follows, row-end, stops-row, row-stops, read-all, all-read}
+use Rattle.recording.proofs.Told.{never-2, recording-told}
 use Rattle.recording.proofs.laws.Rowed.{Placed, record-placed}
 
 -- ── a record ──
@@ -97,6 +101,41 @@ module _ (s : List ℕ) (h : Bytes s) where
         let body : drop 6 (take n s) ≡ partOf s (x .body) = rw (size, placed .start) (drop-take 6 (x .body .count) s) in
         rw (← body) (word-back ((record-exact .accepts x n e) .reads) (x .kind) (boxIn s c) reading)
 
+-- ── a recording: bytes and records ──
+
+-- accepted from end to end exactly when the bytes are a recording, and then with these records
+pub recording-exact : (s : List ℕ) → Bytes s → (es : List Entry) → (means (map (entryIn s)) (rowOf s) ≡ got es (length s)) ↔ Recording loose s es
+unfolding means
+recording-exact s h es = (
+  λ e. let (xs, row, are) = unmeant (map (entryIn s)) (rowOf s) e in subst (λ ys. Recording loose s ys) are (recording-sound s h row),
+  λ r. let (xs, row, are) = recording-complete s r in rw (row, are),
+)
+
+-- it can be cut in one way only
+pub one-cut : (s : List ℕ) (es es′ : List Entry) → Recording loose s es → Recording loose s es′ → es ≡ es′
+one-cut s es es′ a b =
+    let (xs, row, are) = recording-complete s a in
+    let (xs′, row′, are′) = recording-complete s b in
+    sym are ∙ ap (map (entryIn s)) (one-got (sym row ∙ row′) .0) ∙ are′
+
+entry-word : {w : List ℕ} {x : Entry} → Record loose w x → w ≡ entryWord x
+entry-word {w} {x} g = record-format .one (records-single w x g)
+
+-- the same records in the same order, bodies included, are the same bytes
+pub same-bytes : {s t : List ℕ} {es : List Entry} → Recording loose s es → Recording loose t es → s ≡ t
+same-bytes none none = refl
+same-bytes (one-more g r) (one-more g′ r′) = cc (entry-word g, entry-word g′, same-bytes r r′)
+
+-- every word is the tidy one
+pub recordings-single : (w : List ℕ) (es : List Entry) → Recording loose w es → Recording tidy w es
+recordings-single w es none = none
+recordings-single w es (one-more {u} {v} {x} {xs} g r) = one-more (records-single u x g) (recordings-single v xs r)
+
+-- every record that the listing goes through is read exactly when the bytes are a recording
+pub rows-alike : (s : List ℕ) → Bytes s → AllRead (recordsIn s) ↔ ((es : List Entry) × Recording loose s es)
+unfolding recordsIn
+rows-alike s b = (all-read (length s) s (omega arith) b, λ r. read-all (r .1))
+
 -- ── what is written of the records, one after the other ──
 
 -- is a recording of just those
@@ -121,7 +160,7 @@ writes-all (one-more (noted v small bs) r) all = absurd all
 pub recording-back : {s : List ℕ} {es : List Entry} → Recording loose s es → NoNotes es → (w : List ℕ) → Writes es w ↔ (w ≡ s)
 recording-back {s} {es} r all w = (λ p. same-bytes (recording-written p) r, λ e. subst (λ v. Writes es v) (sym e) (writes-all r all))
 
--- ── the recording ──
+-- ── of `read_recording`'s own answer ──
 
 module _ (s : List ℕ) (h : Bytes s) (r : ReadRecording) (promised : saysRecording r ≡ means length (rowOf s)) where
   row-read : {k n : ℕ} → saysRecording r ≡ got k n → (xs : List content.Record) × (rowOf s ≡ got xs n) × (length xs ≡ k)
@@ -152,3 +191,12 @@ module _ (s : List ℕ) (h : Bytes s) (r : ReadRecording) (promised : saysRecord
     λ e. row-stops s h (refused-meant length (rowOf s) (sym promised ∙ e)),
     λ p. promised ∙ ap (means length) (stops-row s p),
   )
+
+  -- so a refusal has a place exactly where it is 1
+  pub recording-placed : (t : Told) → saysRecording r ≡ refused t → (t .placed ≡ true) ↔ (t .no ≡ END)
+  unfolding moveTold
+  recording-placed t e =
+      let exactly = recording-told s r promised .0 .exactly t e in
+      let p = refused-first t .0 e in
+      let other : t .no ≡ TEXT → ⊥ = λ two. never-2 (drop (p .place) s) (ap (λ v. v .no) (sym (p .told)) ∙ two) refl (p .refusal) in
+      (λ has. elim (exactly .0 has) [ inl one ↦ one | inr two ↦ absurd (other two) ], λ one. exactly .1 (inl one))

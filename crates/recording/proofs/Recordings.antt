@@ -1,34 +1,38 @@
--- A recording is accepted from end to end exactly when it is a row of records. It is cut in one way and spelled in one, and refused as its first refused record is.
+-- Laws of the row of records, by their grammar: it is accepted from end to end where the bytes are a recording, and nowhere else; it is refused as its first refused record is; and the row
+-- that the listing goes through is the same.
 -- Assumes nothing.
 use mathlib.Core.Path.{_≡_, refl, ap, sym, subst, _∙_}
 use mathlib.Core.Bool.{Bool, true, false}
-use mathlib.Core.Logic.{_↔_}
 use mathlib.Core.List.{List, [], _∷_, _++_, map, append-nil}
 use Prim.Native.Nat.{ℕ, zero, suc, _+_, _-_, _≤_, _<_}
 use native.Mathlib.Omega.{arith}
 use borrow.Author.Tests.{ltb-true, ltb-false}
 use lib.Dec.{ltb}
 use lib.ListN.{length, take, drop, length-drop, take-append-drop}
-use lib.Seq.{drop-append-seam, drop-drop}
+use lib.Seq.{drop-append-seam, drop-drop, length-take-le}
 use Rattle.layout.specs.Answer.{Told, Answer, got, refused, pick, after, means}
 use Rattle.layout.specs.Bytes.{Bytes}
 use Rattle.layout.specs.Format.{Stands}
-use Rattle.layout.specs.Grammar.{loose, tidy}
+use Rattle.layout.specs.Grammar.{loose}
 use Rattle.layout.specs.Placed as placed
 use Rattle.layout.proofs.laws.Accepted.{Accepts, accepted, accepts-after, accepts-both, accepts-means, accepts-pick}
 use Rattle.layout.proofs.laws.Numbers.{Bytes-drop, zero-one}
-use Rattle.layout.proofs.laws.Reading.{means-means, means-same, one-got, refused-meant, unmeant}
+use Rattle.layout.proofs.laws.Reading.{means-means, means-same, refused-meant, unmeant}
 use Rattle.layout.proofs.laws.Words.{front, join, no-bytes, part-there, rest-of, self, split, stands-none}
-use Rattle.recording.specs.Codecs.{entryIn, entryWord, recordParts}
+use Rattle.recording.specs.Codecs.{entryIn, recordParts}
 use Rattle.recording.specs.Content as content
+use Rattle.recording.specs.Copied.{moveTold, move}
 use Rattle.recording.specs.Layout.{Entry, Record, Recording, none, one-more}
 use Rattle.recording.specs.Older as older
 use Rattle.recording.specs.Older.{AllRead}
 use Rattle.recording.specs.Record.{recordAt, recordOf}
 use Rattle.recording.specs.Recording.{Follows, no-more, and-then, Stops}
+use Rattle.recording.specs.Refused.{RecordSays}
 use Rattle.recording.specs.Row.{followed, found, recordsIn, rowFrom, rowOf}
+use Rattle.recording.proofs.Judged.{record-judged, record-one}
+use Rattle.recording.proofs.Moved.{shifted, record-moved}
 use Rattle.recording.proofs.Placed.{rest, row-none, row-got, row-refused, row-ends}
-use Rattle.recording.proofs.Records.{record-word, record-format, records-single, record-parts}
+use Rattle.recording.proofs.Records.{record-word, record-format, record-parts}
 use Rattle.recording.proofs.laws.Rowed.{Placed, record-placed, records-none, records-step}
 
 module _ (s : List ℕ) where
@@ -55,14 +59,32 @@ module _ (s : List ℕ) where
       let (xs, row, are) = through r (self s) in
       (xs, row ∙ ap (means (λ zs. xs ++ zs)) (row-none s (length s) (omega arith)) ∙ ap (λ ys. got ys (length s)) (append-nil xs), are)
 
+  -- ── a record at a place, by its own bytes ──
+
+  record-here : {at : ℕ} → at ≤ length s → recordAt s at ≡ shifted (move at) at (recordOf (drop at s))
+  record-here {at} h =
+      let size : length (take at s) ≡ at = length-take-le at s h in
+      let place : at ≡ length (take at s) + 0 = omega (arith, size) in
+      ap (λ v. recordAt v at) (sym (take-append-drop at s)) ∙ ap (recordAt (take at s ++ drop at s)) place ∙ record-moved (take at s) (drop at s) 0 ∙ ap (λ k. shifted (move k) k (recordOf (drop at s))) size
+
+  own-refusal : {at : ℕ} {t : Told} → at ≤ length s → recordAt s at ≡ refused t → (own : Told) × RecordSays (drop at s) (refused own) × (t ≡ moveTold at own)
+  own-refusal {at} {t} h e = go (recordOf (drop at s)) (record-judged (drop at s)) (sym (record-here h) ∙ e)
+    where
+      go : (x : Answer content.Record) → RecordSays (drop at s) x → shifted (move at) at x ≡ refused t → (own : Told) × RecordSays (drop at s) (refused own) × (t ≡ moveTold at own)
+      go (got x n) p f = zero-one (cc)
+      go (refused own) p f = (own, p, cc)
+
   -- up to a record that is refused
   pub stops-row : {t : Told} → Stops s t → rowOf s ≡ refused t
   unfolding rowOf means
   stops-row {t} p =
       let k = p .place in
+      let within : k ≤ length s = omega (arith, p .more) in
+      let own : recordOf (drop k s) ≡ refused (p .own) = record-one (drop k s) (recordOf (drop k s)) (refused (p .own)) (record-judged (drop k s)) (p .refusal) in
+      let refusal : recordAt s k ≡ refused t = record-here within ∙ ap (shifted (move k) k) own ∙ ap refused (sym (p .told)) in
       let (xs, row, are) = through (p .sound) (part-there s 0 k (omega (arith, p .more))) in
       let place : 0 + k ≡ k = omega arith in
-      row ∙ ap (λ m. means (λ zs. xs ++ zs) (rest s m)) place ∙ ap (means (λ zs. xs ++ zs)) (row-refused s k (p .more) (sym (p .refusal)))
+      row ∙ ap (λ m. means (λ zs. xs ++ zs) (rest s m)) place ∙ ap (means (λ zs. xs ++ zs)) (row-refused s k (p .more) (sym refusal))
 
   -- ── what is read is a row of records ──
 
@@ -120,7 +142,9 @@ module _ (s : List ℕ) where
         let p = row-before (length s) 0 t e in
         let size : p .place ≡ length (p .before) = omega (arith, p .stands .till) in
         let is : take (p .place) s ≡ p .before = ap (λ n. take n s) size ∙ p .stands .is in
-        record { place = p .place; entries = p .entries; sound = rw is (p .sound); more = p .more; refusal = p .refusal }
+        let within : p .place ≤ length s = omega (arith, p .more) in
+        let (own, refusal, told) = own-refusal within (p .refusal) in
+        record { place = p .place; entries = p .entries; sound = rw is (p .sound); more = p .more; own = own; refusal = refusal; told = told }
 
   -- each record begins where the one before it ends
   row-follows : (f at : ℕ) → Accepts (λ xs n. Follows s at xs n) (rowFrom f s at)
@@ -141,37 +165,9 @@ module _ (s : List ℕ) where
   unfolding rowOf
   row-end e = accepted _ (row-ends (length s) s 0 (omega arith) (omega arith)) (sym e)
 
--- from end to end, and then with these records
-pub recording-exact : (s : List ℕ) → Bytes s → (es : List Entry) → (means (map (entryIn s)) (rowOf s) ≡ got es (length s)) ↔ Recording loose s es
-unfolding means
-recording-exact s h es = (
-  λ e. let (xs, row, are) = unmeant (map (entryIn s)) (rowOf s) e in subst (λ ys. Recording loose s ys) are (recording-sound s h row),
-  λ r. let (xs, row, are) = recording-complete s r in rw (row, are),
-)
-
--- ── one cut, one spelling ──
-
-pub one-cut : (s : List ℕ) (es es′ : List Entry) → Recording loose s es → Recording loose s es′ → es ≡ es′
-one-cut s es es′ a b =
-    let (xs, row, are) = recording-complete s a in
-    let (xs′, row′, are′) = recording-complete s b in
-    sym are ∙ ap (map (entryIn s)) (one-got (sym row ∙ row′) .0) ∙ are′
-
-entry-word : {w : List ℕ} {x : Entry} → Record loose w x → w ≡ entryWord x
-entry-word {w} {x} g = record-format .one (records-single w x g)
-
-pub same-bytes : {s t : List ℕ} {es : List Entry} → Recording loose s es → Recording loose t es → s ≡ t
-same-bytes none none = refl
-same-bytes (one-more g r) (one-more g′ r′) = cc (entry-word g, entry-word g′, same-bytes r r′)
-
--- every word is the tidy one
-pub recordings-single : (w : List ℕ) (es : List Entry) → Recording loose w es → Recording tidy w es
-recordings-single w es none = none
-recordings-single w es (one-more {u} {v} {x} {xs} g r) = one-more (records-single u x g) (recordings-single v xs r)
-
 -- ── the row that the listing goes through ──
 
-read-all : {s : List ℕ} {es : List Entry} → Recording loose s es → AllRead (recordsIn s)
+pub read-all : {s : List ℕ} {es : List Entry} → Recording loose s es → AllRead (recordsIn s)
 read-all none = subst AllRead (sym (records-none [] (omega arith))) older.none
 read-all (one-more {u} {v} g r) =
     let st : Stands (u ++ v) 0 (length u) u = front u v refl (omega arith) in
@@ -181,7 +177,7 @@ read-all (one-more {u} {v} g r) =
     let step : recordsIn (u ++ v) ≡ got y (length u) ∷ recordsIn v = records-step (u ++ v) (omega (arith, placed .till, placed .within)) ∙ ap (λ z. followed z (λ n. recordsIn (drop n (u ++ v)))) read ∙ ap (λ w. got y (length u) ∷ recordsIn w) behind in
     subst AllRead (sym step) (older.one-more (read-all r))
 
-all-read : (f : ℕ) (s : List ℕ) → length s ≤ f → Bytes s → AllRead (found f s) → (es : List Entry) × Recording loose s es
+pub all-read : (f : ℕ) (s : List ℕ) → length s ≤ f → Bytes s → AllRead (found f s) → (es : List Entry) × Recording loose s es
 unfolding found
 all-read zero s h b all = ([], rw (no-bytes s h) none)
 all-read (suc f) s h b all = go (ltb 0 (length s)) refl (recordOf s) refl all (all-read f)
@@ -196,7 +192,3 @@ all-read (suc f) s h b all = go (ltb 0 (length s)) refl (recordOf s) refl all (a
         let size : n ≡ length w = omega (arith, st .till) in
         let behind : drop n s ≡ drop (length w) s = ap (λ m. drop m s) size in
         (entryIn s x ∷ es, subst (λ v. Recording loose v (entryIn s x ∷ es)) (ap (λ v. w ++ v) behind ∙ rest-of st) (one-more {xs = es} g r))
-
-pub rows-alike : (s : List ℕ) → Bytes s → AllRead (recordsIn s) ↔ ((es : List Entry) × Recording loose s es)
-unfolding recordsIn
-rows-alike s b = (all-read (length s) s (omega arith) b, λ r. read-all (r .1))

@@ -3,12 +3,12 @@
 use mathlib.Core.Path.{_≡_, refl, ap, sym, subst, _∙_}
 use mathlib.Core.Bool.{Bool, true, false}
 use mathlib.Core.List.{List, [], _++_}
-use Prim.Native.Nat.{ℕ, _+_, _-_, _^_, _≤_, _<_}
+use Prim.Native.Nat.{ℕ, _+_, _-_, _≤_, _<_}
 use native.Mathlib.Omega.{arith}
 use borrow.Author.Tests.{le-leb, leb-true, eqb-true, eqb-false, eq-eqb, ne-eqb}
 use lib.Dec.{leb, eqb}
 use lib.ListN.{length, take, drop, length-append, length-drop}
-use lib.Seq.{length-take-le, take-all, take-take}
+use lib.Seq.{length-take-le, take-take}
 use Rattle.layout.specs.Answer.{Answer, got, refused, pick, after, means, spanAt}
 use Rattle.layout.specs.Bytes.{Bytes, bytes}
 use Rattle.layout.specs.Format.{Stands, Sound, word, none, Format}
@@ -21,9 +21,8 @@ use Rattle.layout.proofs.laws.Reading.{drop-take, unmeant}
 use Rattle.layout.proofs.laws.Single.{Single}
 use Rattle.layout.proofs.laws.Words.{fits, join, part-there, split}
 use Rattle.wire.specs.Codecs.{boxIn}
-use Rattle.wire.specs.Container.{containerAt, containerWord}
+use Rattle.wire.specs.Container.{containerAt}
 use Rattle.wire.specs.Layout.{Box, Container}
-use Rattle.wire.specs.Layout as L
 use Rattle.wire.specs.Places.{numAt}
 use Rattle.wire.specs.Returned.{partOf}
 use Rattle.wire.specs.declared.Part.{Part}

@@ -3,7 +3,7 @@
 use mathlib.Core.Path.{_≡_}
 use mathlib.Core.List.{List, [], _∷_, _++_}
 use Prim.Native.Nat.{ℕ, _^_, _<_}
-use lib.ListN.{length, take}
+use lib.ListN.{length, take, drop}
 use Rattle.layout.specs.Answer.{Told, Answer, got, refused}
 use Rattle.layout.specs.Bytes.{Bytes}
 use Rattle.layout.specs.Grammar.{loose}
@@ -13,8 +13,10 @@ use Rattle.wire.specs.Container.{containerSaid}
 use Rattle.wire.specs.Layout.{Box}
 use Rattle.recording.specs.Codecs.{recordParts}
 use Rattle.recording.specs.Content.{Record}
+use Rattle.recording.specs.Copied.{moveTold}
 use Rattle.recording.specs.Layout.{Entry, holds, note, Recording}
 use Rattle.recording.specs.Record.{recordAt, recordSaid}
+use Rattle.recording.specs.Refused.{RecordSays}
 use Rattle.recording.specs.declared.row.ReadRecording.{ReadRecording}
 use Rattle.recording.specs.declared.row.ReadRecording.the-variants as readRecording
 
@@ -30,13 +32,17 @@ pub data Follows (s : List ℕ) : ℕ → List Record → ℕ → Type 0 where
   no-more : {at : ℕ} → Follows s at [] at
   and-then : {at : ℕ} {x : Record} {xs : List Record} {next n : ℕ} → recordAt s at ≡ got x next → at < next → Inside at next (recordParts x) → Follows s next xs n → Follows s at (x ∷ xs) n
 
--- the first that is refused: the bytes before it are a recording
+-- ── the first that is refused ──
+
+-- the bytes before it are a recording; its own refusal is by the conditions on its bytes, and is told of the place in the recording
 pub record Stops (s : List ℕ) (t : Told) : Type 0 where
   pub place : ℕ
   pub entries : List Entry
   pub sound : Recording loose (take place s) entries
   pub more : place < length s
-  pub refusal : recordAt s place ≡ refused t
+  pub own : Told
+  pub refusal : RecordSays (drop place s) (refused own)
+  pub told : t ≡ moveTold place own
 
 -- ── as `write_container` and `write_record` write them ──
 
