@@ -27,8 +27,8 @@ use Rattle.wire.specs.Places.{numAt}
 use Rattle.wire.specs.Returned.{partOf}
 use Rattle.wire.specs.declared.Part.{Part}
 use Rattle.wire.specs.declared.container.Container as declared
-use Rattle.wire.proofs.laws.Boxes.{cell, container-word, container-format, containers-single}
-use Rattle.wire.proofs.laws.Contained.{Boxed, container-stands}
+use Rattle.wire.proofs.laws.Boxes.{container-word, container-format, containers-single}
+use Rattle.wire.proofs.laws.Contained.{cell, Boxed, container-stands}
 use Rattle.wire.proofs.laws.Located.{inside-both}
 use Rattle.recording.specs.Codecs.{entryIn, contentParts, recordParts, entryWord, entry}
 use Rattle.recording.specs.Content as content

@@ -12,11 +12,10 @@ use lib.Seq.{length-take-le}
 use Rattle.layout.specs.Answer.{Answer, got, refused, means}
 use Rattle.layout.specs.Bytes.{Bytes, bytes}
 use Rattle.layout.specs.Format.{Stands, Sound, word, none, Format}
-use Rattle.layout.specs.Grammar.{loose, tidy, Number, num}
+use Rattle.layout.specs.Grammar.{loose, tidy}
 use Rattle.layout.specs.Placed.{Lies, lies, nowhere, Placed}
 use Rattle.layout.specs.Written.{says}
 use Rattle.layout.proofs.laws.Accepted.{Accepts, accepts-after, accepts-pick}
-use Rattle.layout.proofs.laws.Make.{number-format}
 use Rattle.layout.proofs.laws.Numbers.{Bytes-drop, Bytes-take}
 use Rattle.layout.proofs.laws.Single.{Single}
 use Rattle.layout.proofs.laws.Words.{join, part-there, rest-of}
@@ -27,18 +26,10 @@ use Rattle.wire.specs.Layout.{Box, Container}
 use Rattle.wire.specs.Places.{numAt}
 use Rattle.wire.specs.declared.container.Container as declared
 use Rattle.wire.specs.declared.container.Header.{Header}
-use Rattle.wire.proofs.laws.Contained.{Boxed, container-stands, container-length, said-bytes}
+use Rattle.wire.proofs.laws.Contained.{cell, Boxed, container-stands, container-length, said-bytes}
 use Rattle.wire.proofs.laws.ReadBack.{kind-from, container-there, payload-there, due}
 
 -- ── what is read is a word ──
-
--- a number that was read stands there
-pub cell : (k : ℕ) (s : List ℕ) → Bytes s → (at : ℕ) → Accepts (λ v n. Stands s at n (bytes k v) × (v < 256 ^ k)) (numAt k s at)
-cell k s h at = go (numAt k s at) ((number-format k) .sound s h at)
-  where
-    go : (x : Answer ℕ) → Sound (Number k) s at x → Accepts (λ v n. Stands s at n (bytes k v) × (v < 256 ^ k)) x
-    go (got v n) (word st (num lt)) = (st, lt)
-    go (refused t) none = tt
 
 module _ (s : List ℕ) (h : Bytes s) (at : ℕ) where
   -- a header's four numbers
