@@ -13,6 +13,7 @@ mod many;
 mod mended;
 mod number;
 mod objects;
+mod packets;
 mod print;
 mod question;
 mod reads;

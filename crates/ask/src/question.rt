@@ -10,7 +10,7 @@ pub(crate) const READS: u8 = b'r';
 
 pub(crate) const WRITES: u8 = b'w';
 
-const TABLE: [u8; 813] = *b"\
+const TABLE: [u8; 863] = *b"\
     response-name rR 2;\
     command-name rC 2;\
     value rv 28b;\
@@ -37,6 +37,9 @@ const TABLE: [u8; 813] = *b"\
     header rh b;\
     container rc b;\
     write-container wc 224br;\
+    to-network wN dbr;\
+    from-network wF br;\
+    packet rP 8b;\
     command wm 42nr;\
     command-data wd 42nbr;\
     panel wn l4b2br;\
