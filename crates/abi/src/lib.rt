@@ -3,6 +3,7 @@
 mod answer;
 mod copied;
 mod dataset;
+mod linked;
 mod mended;
 mod name;
 mod object_table;

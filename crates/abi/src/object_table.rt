@@ -63,7 +63,7 @@ pub extern "C" fn ptp_paths(
     answer::told(tree::paths(handles, parents, ends, marks, count, names, out, out_ends))
 }
 
-fn counted(c: Checked) -> Written
+pub(crate) fn counted(c: Checked) -> Written
     ensures { λ r. ⌜ saysWritten r ≡ saysChecked c ⌝ }
 {
     match c {
@@ -72,7 +72,7 @@ fn counted(c: Checked) -> Written
     }
 }
 
-fn placed(a: Added) -> Written
+pub(crate) fn placed(a: Added) -> Written
     ensures { λ r. ⌜ saysWritten r ≡ saysAdded a ⌝ }
 {
     match a {

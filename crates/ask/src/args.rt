@@ -9,13 +9,13 @@ use crate::slice;
 pub(crate) const MOST_NUMBERS: usize = 4096;
 
 // The words of a question at most.
-const MOST_WORDS: usize = 9;
+const MOST_WORDS: usize = 11;
 
 // Of each word, in order, a number and a count: a number's value; 1 for `book` and `out`, 0 for `crate` and `in`; where bytes, a list or a word start, and how many they are. Of the
 // last bytes or word, and of the room, again by name.
 pub(crate) struct Args {
-    pub numbers: [usize; 9],
-    pub counts: [usize; 9],
+    pub numbers: [usize; 11],
+    pub counts: [usize; 11],
     pub start: usize,
     pub count: usize,
     pub room: usize,

@@ -10,7 +10,7 @@ pub(crate) const READS: u8 = b'r';
 
 pub(crate) const WRITES: u8 = b'w';
 
-const TABLE: [u8; 863] = *b"\
+const TABLE: [u8; 1050] = *b"\
     response-name rR 2;\
     command-name rC 2;\
     value rv 28b;\
@@ -57,6 +57,14 @@ const TABLE: [u8; 863] = *b"\
     delete ld nhno8b8;\
     collect lC nhno8b;\
     add la nhno8b84b;\
+    folders lv nhno8b;\
+    folder-paths lV nhno8br;\
+    link lk nhno8b;\
+    linked-walk lK nhno8bhh;\
+    linked-paths lP nhno8bhhr;\
+    linked-delete lD nhno8bhh8;\
+    linked-collect lG nhno8bhh;\
+    linked-add lA nhno8bhh84b;\
     settings ls eb;\
     settings-find lf eb42h;\
     settings-store wk ebbr;\
