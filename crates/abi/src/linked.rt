@@ -1,7 +1,10 @@
 // An object table that keeps its links: they are made; the walk and all paths go along them; an object deleted, the live ones collected, one added.
 ghost use mathlib.Core.Path.{_≡_};
-ghost use Rattle.layout.specs.Written.{saysWritten};
-ghost use Rattle.tree.specs.Links.{Keeping, Linked};
+ghost use Rattle.layout.specs.Written.{Wrote};
+ghost use Rattle.shots.specs.Added.{addAt, addedTo, Adds};
+ghost use Rattle.shots.specs.Collected.{collected, Collected};
+ghost use Rattle.shots.specs.Deleted.{deleted, deleteSaid};
+ghost use Rattle.tree.specs.Links.{Keeping, Linked, Relinked};
 ghost use Rattle.tree.specs.Path.{Walked, AllPaths};
 ghost use Rattle.tree.specs.Table.{table};
 ghost use Rattle.abi.specs.Answered.{Tells};
@@ -66,4 +69,67 @@ pub extern "C" fn ptp_linked_paths(
     answer::told(tree::paths_linked(
         handles, parents, ends, marks, count, names, first, next, out, out_ends,
     ))
+}
+
+// A place ended, and everything below it. The answer is the count, which stays.
+#[no_mangle]
+pub extern "C" fn ptp_linked_delete(
+    handles: &[u32],
+    parents: &[u16],
+    ends: &[u32],
+    marks: &mut [u8],
+    count: usize,
+    names: &[u8],
+    first: &mut [u16],
+    next: &mut [u16],
+    place: usize,
+) -> u64
+    ensures { λ r. ⌜ Tells (λ a. Keeping (table (now (handles .entry)) (now (parents .entry)) (now (ends .entry)) (now (marks .entry)) count (now (names .entry))) (now (first .entry)) (now (next .entry)) a (Wrote (deleteSaid (table (now (handles .entry)) (now (parents .entry)) (now (ends .entry)) (now (marks .entry)) count (now (names .entry))) place) (now (marks .entry)) a (now (marks .exit)) × Relinked (deleted (table (now (handles .entry)) (now (parents .entry)) (now (ends .entry)) (now (marks .entry)) count (now (names .entry))) place) (now (first .entry)) (now (next .entry)) a (now (first .exit)) (now (next .exit))) ((now (marks .exit) ≡ now (marks .entry)) × (now (first .exit) ≡ now (first .entry)) × (now (next .exit) ≡ now (next .entry)))) r ⌝ }
+{
+    answer::told(object_table::counted(shots::delete_linked(
+        handles, parents, ends, marks, count, names, first, next, place,
+    )))
+}
+
+// The live objects moved down, and the new place of each. The answer is the new count.
+#[no_mangle]
+pub extern "C" fn ptp_linked_collect(
+    handles: &mut [u32],
+    parents: &mut [u16],
+    ends: &mut [u32],
+    marks: &mut [u8],
+    count: usize,
+    names: &mut [u8],
+    first: &mut [u16],
+    next: &mut [u16],
+    news: &mut [u16],
+) -> u64
+    ensures { λ r. ⌜ COLLECT ⌝ }
+{
+    answer::told(object_table::counted(shots::collect_linked(
+        handles, parents, ends, marks, count, names, first, next, news,
+    )))
+}
+
+// An object behind the last, and the new place of each of the others. The answer is its place; the count is then one more.
+#[no_mangle]
+pub extern "C" fn ptp_linked_add(
+    handles: &mut [u32],
+    parents: &mut [u16],
+    ends: &mut [u32],
+    marks: &mut [u8],
+    count: usize,
+    names: &mut [u8],
+    first: &mut [u16],
+    next: &mut [u16],
+    news: &mut [u16],
+    parent: usize,
+    handle: u32,
+    name: &[u8],
+) -> u64
+    ensures { λ r. ⌜ ADD ⌝ }
+{
+    answer::told(object_table::placed(shots::add_linked(
+        handles, parents, ends, marks, count, names, first, next, news, parent, handle, name,
+    )))
 }
