@@ -10,3 +10,4 @@ pub mod Copied
 pub mod Trails
 pub mod Passing
 pub mod Linked
+pub mod Folding

@@ -5,6 +5,7 @@ mod linking;
 mod name;
 mod queue;
 mod table;
+mod view;
 
 pub use climb::path;
 pub use every::paths;
