@@ -42,6 +42,6 @@ pub record Down (fs ns : List ℕ) : Type 0 where
 
 -- ── by the parents ──
 
--- the root and all live places below it: a level for each place is enough
+-- the root and all live places below it: there are at most 1,024 places, so there are no more levels
 unfoldable pub viewOf : List ℕ → (ℕ → Bool) → List ℕ
-viewOf ps has = under (length ps) (kids ps has) 0
+viewOf ps has = under 1024 (kids ps has) 0
