@@ -11,3 +11,4 @@ pub mod Trails
 pub mod Passing
 pub mod Linked
 pub mod Folding
+pub mod Viewing
