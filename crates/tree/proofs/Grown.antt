@@ -29,7 +29,7 @@ module _ {Bef : ℕ → ℕ → Type 0} where
   sorted-take (suc i) (next e s) = next (every-take i e) (sorted-take i s)
 
   -- each of b comes after each of a
-  sorted-append : {a b : List ℕ} → Sorted Bef a → Sorted Bef b → Every (λ y. Every (λ x. Bef x y) a) b → Sorted Bef (a ++ b)
+  pub sorted-append : {a b : List ℕ} → Sorted Bef a → Sorted Bef b → Every (λ y. Every (λ x. Bef x y) a) b → Sorted Bef (a ++ b)
   sorted-append done t f = t
   sorted-append (next e s) t f =
       next (every-append e (every-map (λ y g. first g) f)) (sorted-append s t (every-map (λ y g. others g) f))
@@ -79,11 +79,11 @@ module _ (ps : List ℕ) (rule : Ruled ps) (has : ℕ → Bool) (marks : Marks p
       put true f s = next {x = k} (every-map (λ x g. let z = g .least in omega arith) f) s
       put false f s = s
 
-  every-kid : (p : ℕ) → Every (Kid ps p) (kids ps has p)
+  pub every-kid : (p : ℕ) → Every (Kid ps p) (kids ps has p)
   unfolding kids
   every-kid p = every-map (λ x f. f .kid) (every-in _ (suc p) p (omega arith) (omega arith))
 
-  rising-kids : (p : ℕ) → Sorted _<_ (kids ps has p)
+  pub rising-kids : (p : ℕ) → Sorted _<_ (kids ps has p)
   unfolding kids
   rising-kids p = sorted-in _ (suc p) p (omega arith) (omega arith)
 
@@ -123,7 +123,7 @@ module _ (ps : List ℕ) (rule : Ruled ps) (has : ℕ → Bool) (marks : Marks p
   pub order-turn : {i : ℕ} {q : List ℕ} (g : Growing ps has 0 i q) → i < length q → Sorted (Before ps) q → Sorted (Before ps) (q ++ kids ps has (getD q i 0))
   order-turn {i} {q} g h o = rw (longer ps rule has marks 0 (marks .root) g h) (sorted-grown (take (suc i) q) (sorted-take (suc i) o))
 
-  root-by : (f x : ℕ) → x < f → x < length ps → times 0 (way ps x) ≡ 1
+  pub root-by : (f x : ℕ) → x < f → x < length ps → times 0 (way ps x) ≡ 1
   root-by zero x h l = absurd (not-suc-le-zero h)
   root-by (suc f) x h l =
       equal x 0

@@ -10,3 +10,5 @@ pub mod Copied
 pub mod Trails
 pub mod Passing
 pub mod Linked
+pub mod Folding
+pub mod Viewing

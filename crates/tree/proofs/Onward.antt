@@ -12,12 +12,12 @@ use Rattle.layout.specs.Answer.{pick}
 use Rattle.layout.specs.Written.{put, Put}
 use Rattle.layout.proofs.laws.Reading.{drop-take}
 use Rattle.tree.specs.Facts.{Ruled, Marks, Long, Stands, Above, All}
-use Rattle.tree.specs.Listed.{times, Every, none, more, Sorted, done, next}
+use Rattle.tree.specs.Listed.{times, Every, none, more, Sorted, done, next, Listed}
 use Rattle.tree.specs.Table.{parent}
-use Rattle.tree.specs.Way.{way, depth, Before, higher, Walk}
+use Rattle.tree.specs.Way.{way, depth, Before, higher}
 use Rattle.tree.specs.Path.{pathOf}
 use Rattle.tree.proofs.laws.Counts.{equal, hit, miss, times-append, every-at, every-map, every-append}
-use Rattle.tree.proofs.laws.Ways.{way-step, never}
+use Rattle.tree.proofs.laws.Ways.{way-step}
 
 -- ── the parent stands before ──
 
@@ -29,7 +29,7 @@ sorted-drop (suc i) (next f s) = sorted-drop i s
 first-before : {B : ℕ → ℕ → Type 0} {x : ℕ} {m : List ℕ} → Sorted B (x ∷ m) → (p : ℕ) → 0 < times p m → B x p
 first-before (next f s) p h = every-at p f h
 
-deeper : (ps : List ℕ) → Ruled ps → (k : ℕ) → 0 < k → k < length ps → Before ps (parent ps k) k
+pub deeper : (ps : List ℕ) → Ruled ps → (k : ℕ) → 0 < k → k < length ps → Before ps (parent ps k) k
 unfolding depth
 deeper ps rule k s l =
     higher (let e = ap length (way-step ps rule k s l) in let a = length-append (way ps (parent ps k)) (k ∷ []) in omega arith)
@@ -41,8 +41,10 @@ live-if false n h e = absurd (omega arith)
 once-if : (b : Bool) (n : ℕ) → b ≡ true → n ≡ pick b 1 0 → n ≡ 1
 once-if b n h e = e ∙ rw h
 
-pub above-it : (ps : List ℕ) → Ruled ps → {has : ℕ → Bool} → Marks ps has → {l : List ℕ} → Walk ps has l → (i : ℕ) → i < length l → (getD l i 0 ≡ 0 → ⊥) → 0 < times (parent ps (getD l i 0)) (take i l)
-above-it ps rule {has} marks {l} w i h ne =
+-- in any order in which no two are each before the other, and a parent is before its children
+pub above-it : (ps : List ℕ) → Ruled ps → {has : ℕ → Bool} → Marks ps has → {B : ℕ → ℕ → Type 0} → ((a b : ℕ) → B a b → B b a → ⊥) → ((k : ℕ) → 0 < k → k < length ps → B (parent ps k) k)
+    → {l : List ℕ} → Listed has B l → (i : ℕ) → i < length l → (getD l i 0 ≡ 0 → ⊥) → 0 < times (parent ps (getD l i 0)) (take i l)
+above-it ps rule {has} marks {B} not-both up-first {l} w i h ne =
     let k = getD l i 0 in
     let p = parent ps (getD l i 0) in
     let c = drop-cons l i 0 h in
@@ -54,11 +56,11 @@ above-it ps rule {has} marks {l} w i h ne =
     let less = rule .smaller k s there in
     let up = once-if (has p) (times p l) (marks .up k s mine) (w .once p) in
     let other : times p (drop i l) ≡ times p (drop (suc i) l) = ap (times p) c ∙ miss p k (drop (suc i) l) (λ e. omega arith) in
-    let sorted : Sorted (Before ps) (k ∷ drop (suc i) l) = subst (λ (m : List ℕ). Sorted (Before ps) m) c (sorted-drop i (w .order)) in
+    let sorted : Sorted B (k ∷ drop (suc i) l) = subst (λ (m : List ℕ). Sorted B m) c (sorted-drop i (w .order)) in
     let both = parts p in
     equal (times p (drop (suc i) l)) 0
     (λ z. omega arith)
-    (λ z. absurd (never ps p k (deeper ps rule k s there) (first-before sorted p (omega arith))))
+    (λ z. absurd (not-both p k (up-first k s there) (first-before sorted p (omega arith))))
 
 -- ── what holds of the first i, and of one more ──
 

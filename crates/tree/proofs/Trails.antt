@@ -17,14 +17,15 @@ use Rattle.layout.proofs.laws.Numbers.{zero-one}
 use Rattle.layout.proofs.laws.Writing.{refusal, no-room, done}
 use Rattle.layout.specs.Refusals.{ROOM}
 use Rattle.tree.specs.Facts.{Ruled, Kept, Marks, Listing, PathsGiven}
-use Rattle.tree.specs.Listed.{times, Every, none, more}
-use Rattle.tree.specs.Table.{Table, rows, stops, flags, live, tableAt}
+use Rattle.tree.specs.Listed.{times, Every, none, more, Listed}
+use Rattle.tree.specs.Table.{Table, rows, stops, flags, live, parent, tableAt}
 use Rattle.tree.specs.Way.{Walk}
 use Rattle.tree.specs.Path.{pathOf, joined, endsFrom, pathsSaid, endsSaid, Walked, AllPaths}
 use Rattle.tree.specs.Says.{Walks}
 use Rattle.tree.proofs.laws.Counts.{hit, pigeon}
-use Rattle.tree.proofs.Onward.{above-it}
+use Rattle.tree.proofs.Onward.{deeper, above-it}
 use Rattle.tree.proofs.Routes.{path-short}
+use Rattle.tree.proofs.laws.Ways.{never}
 
 -- ── one at a time ──
 
@@ -62,7 +63,7 @@ joined-few ps es ns rule h (more {x = k} {l = l} p e) =
 pub joined-short : {ps es ns l : List ℕ} → Listing ps es ns l → Bytes ns → length (joined ps es ns l) ≤ 1066401792
 joined-short {ps} {es} {ns} {l} g h = omega (arith, joined-few ps es ns (g .kept .ruling) h (g .places), g .few)
 
--- ── the walk's places ──
+-- ── the places that are listed ──
 
 every-there : {P : ℕ → Type 0} (l : List ℕ) → ((k : ℕ) → 0 < times k l → P k) → Every P l
 every-there [] f = none
@@ -72,12 +73,22 @@ once-there : (n k t : ℕ) (b : Bool) → (b ≡ true → k < n) → t ≡ pick 
 once-there n k t true e h = let j = e refl in (omega arith, λ p. j, λ p. absurd (omega arith))
 once-there n k t false e h = (omega arith, λ p. absurd (omega arith), λ p. h)
 
+module _ {ps l : List ℕ} {has : ℕ → Bool} {B : ℕ → ℕ → Type 0} (marks : Marks ps has) (w : Listed has B l) where
+  listed-at : (k : ℕ) → (times k l ≤ 1) × (0 < times k l → k < length ps) × (length ps ≤ k → times k l ≡ 0)
+  listed-at k = once-there (length ps) k (times k l) (has k) (marks .place k) (w .once k)
+
+  pub listed-few : length l ≤ length ps
+  listed-few = pigeon (length ps) l (λ k. listed-at k .0) (λ k. listed-at k .2)
+
+  -- listed in an order in which a parent is before its children
+  pub listing-by : {es ns : List ℕ} → Kept ps es ns → ((a b : ℕ) → B a b → B b a → ⊥) → ((k : ℕ) → 0 < k → k < length ps → B (parent ps k) k) → Listing ps es ns l
+  listing-by kept not-both up-first =
+      let few = listed-few in
+      let most = kept .ruling .few in
+      record { kept = kept; places = every-there l (λ k. listed-at k .1); above = above-it ps (kept .ruling) marks not-both up-first w; few = omega arith }
+
 pub listing : {ps es ns l : List ℕ} {has : ℕ → Bool} → Kept ps es ns → Marks ps has → Walk ps has l → Listing ps es ns l
-listing {ps} {es} {ns} {l} {has} kept marks w =
-    let at : (k : ℕ) → (times k l ≤ 1) × (0 < times k l → k < length ps) × (length ps ≤ k → times k l ≡ 0) = λ k. once-there (length ps) k (times k l) (has k) (marks .place k) (w .once k) in
-    let few = pigeon (length ps) l (λ k. at k .0) (λ k. at k .2) in
-    let most = kept .ruling .few in
-    record { kept = kept; places = every-there l (λ k. at k .1); above = above-it ps (kept .ruling) marks w; few = omega arith }
+listing {ps} kept marks w = listing-by marks w kept (never ps) (deeper ps (kept .ruling))
 
 -- the front of the queue is the walk
 pub front : {ps old new : List ℕ} {has : ℕ → Bool} {n : ℕ} → Walks ps has old n new → Walk ps has (take n new) × (length (take n new) ≡ n) × (n ≤ length new)

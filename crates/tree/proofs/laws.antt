@@ -14,4 +14,5 @@ pub mod Unique
 pub mod Tested
 pub mod Given
 pub mod Moved
+pub mod Views
 pub mod Told

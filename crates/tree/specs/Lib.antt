@@ -7,3 +7,5 @@ pub mod Says
 pub mod Facts
 pub mod Kids
 pub mod Links
+pub mod Below
+pub mod View

@@ -131,7 +131,7 @@ fn put_paths(
 }
 
 // The paths of these places with an end for each; 9 where either output is too short, and neither is changed.
-fn give_paths(
+pub(crate) fn give_paths(
     parents: &[u16],
     ends: &[u32],
     names: &[u8],

@@ -83,7 +83,7 @@ pub fn walk(
 }
 
 // These places at the front of what was lent; 9 where it is shorter.
-fn give(order: &[u16], places: &mut [u16]) -> Written
+pub(crate) fn give(order: &[u16], places: &mut [u16]) -> Written
     ensures { λ r. ⌜ Wrote (says (now (order .entry))) (now (places .entry)) (saysWritten r) (now (places .exit)) ⌝ }
 {
     if places.len() < order.len() {

@@ -107,7 +107,7 @@ pub chain-full : (n m : ℕ) (ns : List ℕ) (k : ℕ) → m ≤ n → chainIn (
 unfolding chainIn
 chain-full n m ns k h = let z : m - n ≡ 0 = omega arith in rw z
 
-chain-some : (f : ℕ) (ns : List ℕ) (k : ℕ) → (k ≡ 0 → ⊥) → chainIn (suc f) ns k ≡ k ∷ chainIn f ns (getD ns k 0)
+pub chain-some : (f : ℕ) (ns : List ℕ) (k : ℕ) → (k ≡ 0 → ⊥) → chainIn (suc f) ns k ≡ k ∷ chainIn f ns (getD ns k 0)
 unfolding chainIn
 chain-some f ns k e = rw (ne-eqb k 0 e)
 

@@ -25,7 +25,7 @@ use Rattle.tree.proofs.laws.Ways.{way-root, way-step}
 
 -- ── how often a way holds a place ──
 
-flip : (a b : ℕ) → pick {A = ℕ} (eqb a b) 1 0 ≡ pick {A = ℕ} (eqb b a) 1 0
+pub flip : (a b : ℕ) → pick {A = ℕ} (eqb a b) 1 0 ≡ pick {A = ℕ} (eqb b a) 1 0
 flip a b =
     equal a b
     (λ e. ap (λ (c : Bool). pick {A = ℕ} c 1 0) (eq-eqb a b e ∙ sym (eq-eqb b a (sym e))))
@@ -172,6 +172,9 @@ module _ (ps : List ℕ) (rule : Ruled ps) (has : ℕ → Bool) (marks : Marks p
   pub fallen : (x : ℕ) → has x ≡ true → times x q ≡ times place (way ps x)
   fallen x m = fallen-by (suc x) x (omega arith) m
 
+pub one-or-none : (n : ℕ) → n ≤ 1 → n ≡ pick {A = ℕ} (ltb 0 n) 1 0
+one-or-none n l = equal n 0 (λ e. e ∙ sym (ap (λ (b : Bool). pick {A = ℕ} b 1 0) (le-ltb 0 n (omega arith)))) (λ e. let o : n ≡ 1 = omega arith in o ∙ sym (ap (λ (b : Bool). pick {A = ℕ} b 1 0) (lt-ltb 0 n (omega arith))))
+
 -- so a queue of which every turn is taken holds exactly the live places that have the place on their way, each once
 pub fallen-once : (ps : List ℕ) (rule : Ruled ps) (has : ℕ → Bool) (marks : Marks ps has) (place : ℕ) → has place ≡ true → {i : ℕ} {q : List ℕ} → Growing ps has place i q → length q ≤ i
     → (x : ℕ) → times x q ≡ pick (has x && ltb 0 (times place (way ps x))) 1 0
@@ -181,9 +184,6 @@ fallen-once ps rule has marks place living {i} {q} g h x =
     let b = way-few ps rule place x (marks .place x m) in
     rw m (a ∙ one-or-none (times place (way ps x)) b))
     (λ m. rw m (not-there ps rule has marks place living g x m))
-  where
-    one-or-none : (n : ℕ) → n ≤ 1 → n ≡ pick {A = ℕ} (ltb 0 n) 1 0
-    one-or-none n l = equal n 0 (λ e. e ∙ sym (ap (λ (b : Bool). pick {A = ℕ} b 1 0) (le-ltb 0 n (omega arith)))) (λ e. let o : n ≡ 1 = omega arith in o ∙ sym (ap (λ (b : Bool). pick {A = ℕ} b 1 0) (lt-ltb 0 n (omega arith))))
 
 -- ── the queue in memory ──
 
