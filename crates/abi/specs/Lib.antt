@@ -7,3 +7,4 @@ pub mod Rows
 pub mod Sent
 pub mod Mended
 pub mod Settings
+pub mod Recorded

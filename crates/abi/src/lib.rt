@@ -9,6 +9,7 @@ mod object_table;
 mod payload;
 mod property;
 mod record;
+mod recorded;
 mod setting;
 mod text;
 mod transaction;
