@@ -8,3 +8,4 @@ pub mod Sent
 pub mod Mended
 pub mod Settings
 pub mod Packets
+pub mod Recorded

@@ -11,6 +11,7 @@ mod packet;
 mod payload;
 mod property;
 mod record;
+mod recorded;
 mod setting;
 mod text;
 mod transaction;
