@@ -1,5 +1,6 @@
 pub mod laws
 pub mod Endings
+pub mod Falls
 pub mod Movings
 pub mod Ranked
 pub mod Fits
@@ -8,5 +9,6 @@ pub mod Additions
 pub mod Replies
 pub mod Collecting
 pub mod Deleting
+pub mod Relinks
 pub mod Told
 pub mod Adding

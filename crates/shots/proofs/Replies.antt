@@ -28,28 +28,18 @@ unfolding deleteSaid
 delete-refused t place ms e = refusal (rw (← e))
 
 module _ (t : Table) (place : ℕ) {n : ℕ} (e : got tt n ≡ tableAt t) where
-  delete-no : (ltb 0 place && live (flags t) place) ≡ false → {why : Told} → why ≡ bare PLACE → Wrote (deleteSaid t place) (t .marks) (refused why) (t .marks)
+  pub delete-no : (ltb 0 place && live (flags t) place) ≡ false → {why : Told} → why ≡ bare PLACE → Wrote (deleteSaid t place) (t .marks) (refused why) (t .marks)
   unfolding deleteSaid
   delete-no h f = refusal (rw (← e, h, f))
 
-  pub delete-root : place ≡ 0 → {why : Told} → why ≡ bare PLACE → Wrote (deleteSaid t place) (t .marks) (refused why) (t .marks)
-  delete-root z = delete-no (rw (le-ltb 0 place (omega arith)))
-
-  pub delete-none : live (flags t) place ≡ false → {why : Told} → why ≡ bare PLACE → Wrote (deleteSaid t place) (t .marks) (refused why) (t .marks)
-  delete-none h = delete-no (rw h (go (ltb 0 place)))
-    where
-      go : (b : Bool) → (b && false) ≡ false
-      go true = refl
-      go false = refl
-
-  pub delete-done : Sound t → 0 < place → live (flags t) place ≡ true → {new : List ℕ} {k : ℕ} → Put (t .marks) 0 (endedFrom 0 (rows t) place (flags t)) new k → Wrote (deleteSaid t place) (t .marks) (got tt k) new
+  pub delete-done : Sound t → (ltb 0 place && live (flags t) place) ≡ true → {new : List ℕ} {k : ℕ} → Put (t .marks) 0 (endedFrom 0 (rows t) place (flags t)) new k → Wrote (deleteSaid t place) (t .marks) (got tt k) new
   unfolding deleteSaid
-  delete-done s h l p =
+  delete-done s h p =
       let long = ended-long 0 (rows t) place (flags t) in
       let m = marks-long s in
       let few = s .few in
       let whole = s .flagged in
-      done (rw (← e, lt-ltb 0 place h, l)) (omega arith) p
+      done (rw (← e, h)) (omega arith) p
 
 -- ── collect ──
 

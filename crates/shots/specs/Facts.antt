@@ -1,10 +1,15 @@
 -- What the table's rule gives, as facts of the whole lists: the private functions ask for these. No public promise names them.
 -- Assumes nothing.
 use mathlib.Core.Path.{_≡_}
+use mathlib.Core.Bool.{Bool, _&&_}
 use mathlib.Core.List.{List}
 use Prim.Native.Nat.{ℕ, _+_, _≤_, _<_}
+use lib.Dec.{eqb, ltb}
 use lib.ListN.{length, getD}
+use Rattle.layout.specs.Answer.{pick}
+use Rattle.tree.specs.Listed.{times}
 use Rattle.tree.specs.Table.{Table, flags, startOf, endOf}
+use Rattle.shots.specs.Deleted.{under}
 use Rattle.shots.specs.Added.{lastEnd, base, newPlaces}
 use Rattle.shots.specs.Collected.{alive, places, collected, ahead}
 
@@ -73,3 +78,26 @@ pub record Lists (t : Table) (hs ps es ms ns : List ℕ) : Type 0 where
   pub ends : es ≡ t .ends
   pub marks : ms ≡ t .marks
   pub names : ns ≡ t .names
+
+-- ── links ──
+
+-- 0 at the places of a list, the others as they were
+pub record Cleared (q old new : List ℕ) : Type 0 where
+  pub long : length new ≡ length old
+  pub each : (k : ℕ) → getD new k 0 ≡ pick (ltb 0 (times k q)) 0 (getD old k 0)
+
+-- each link that named the place names what stands behind it
+pub record Skipped (place behind : ℕ) (old new : List ℕ) : Type 0 where
+  pub long : length new ≡ length old
+  pub each : (k : ℕ) → getD new k 0 ≡ pick (eqb (getD old k 0) place) behind (getD old k 0)
+
+-- a list's entries are below the size
+pub record Inside (l : List ℕ) (size : ℕ) : Type 0 where
+  pub inside : (i : ℕ) → i < length l → getD l i 0 < size
+
+-- at the front stands what ends: each live place whose way holds the place, once
+pub record Falling (ps : List ℕ) (has : ℕ → Bool) (place : ℕ) (old : List ℕ) (n : ℕ) (new : List ℕ) : Type 0 where
+  pub list : List ℕ
+  pub once : (k : ℕ) → times k list ≡ pick (has k && under ps place k) 1 0
+  pub inside : Inside list (length ps)
+  pub fronted : Fronted list old new n

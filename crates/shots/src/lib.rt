@@ -6,6 +6,7 @@ mod deletion;
 pub use addition::add;
 pub use collection::collect;
 pub use deletion::delete;
+pub use deletion::delete_linked;
 use layout::Refusal;
 
 // The refusal of its own: 1,024 live objects are held.

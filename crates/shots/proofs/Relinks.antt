@@ -1,0 +1,40 @@
+-- What each function on a table that keeps its links answers, case by case.
+-- Assumes nothing.
+use mathlib.Core.Path.{_≡_, refl, sym, ap}
+use mathlib.Core.Bool.{true, false, _&&_, and-eq-true-iff}
+use mathlib.Core.List.{List}
+use Prim.Native.Nat.{ℕ}
+use borrow.Author.Tests.{ltb-true}
+use lib.Dec.{ltb}
+use Rattle.layout.specs.Answer.{Told, got, refused, bare}
+use Rattle.layout.specs.Written.{Put}
+use Rattle.layout.specs.Refusals.{PLACE}
+use Rattle.tree.specs.Links.{Links, relinked, as-before, keptAt}
+use Rattle.tree.specs.Table.{Table, rows, flags, live, tableAt}
+use Rattle.tree.proofs.laws.Accepted.{table-got}
+use Rattle.tree.proofs.laws.Kept.{kept-got, keeping-got, keeping-refused}
+use Rattle.tree.proofs.laws.Sound.{accepted}
+use Rattle.shots.specs.Deleted.{ended}
+use Rattle.shots.specs.Linked.{DeletedLinked}
+use Rattle.shots.proofs.Deleting.{flags-are}
+use Rattle.shots.proofs.Replies.{delete-refused, delete-no, delete-done}
+
+-- ── delete ──
+
+module _ (t : Table) (fs ns : List ℕ) (place : ℕ) where
+  pub unlinked-refused : {why : Told} → refused why ≡ keptAt t fs ns → DeletedLinked t fs ns place (refused why) (t .marks) fs ns
+  unlinked-refused e = keeping-refused t fs ns e (λ f. (delete-refused t place (t .marks) f, as-before)) (refl, refl, refl)
+
+  module _ {n : ℕ} (e : got tt n ≡ keptAt t fs ns) where
+    sure : got tt n ≡ tableAt t
+    sure = kept-got t fs ns e .1
+
+    pub unlinked-no : (ltb 0 place && live (flags t) place) ≡ false → {why : Told} → why ≡ bare PLACE → DeletedLinked t fs ns place (refused why) (t .marks) fs ns
+    unlinked-no h f = keeping-got t fs ns e (delete-no t place sure h f, as-before)
+
+    pub unlinked-done : (ltb 0 place && live (flags t) place) ≡ true → {new fs′ ns′ : List ℕ} {k : ℕ} → Put (t .marks) 0 (ended t place) new k → Links (rows t) (live (ended t place)) fs′ ns′
+        → DeletedLinked t fs ns place (got tt k) new fs′ ns′
+    unlinked-done h p l =
+        let a = and-eq-true-iff (ltb 0 place) (live (flags t) place) .0 h in
+        let r = table-got t (sym sure) .1 in
+        keeping-got t fs ns e (delete-done t place sure (accepted t sure) h p, relinked (rw (flags-are t r place (ltb-true 0 place (a .0)) (a .1)) l))
