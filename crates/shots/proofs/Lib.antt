@@ -8,6 +8,7 @@ pub mod Gatherings
 pub mod Additions
 pub mod Replies
 pub mod Collecting
+pub mod Carrying
 pub mod Deleting
 pub mod Relinks
 pub mod Told

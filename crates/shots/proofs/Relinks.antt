@@ -1,23 +1,26 @@
 -- What each function on a table that keeps its links answers, case by case.
 -- Assumes nothing.
-use mathlib.Core.Path.{_≡_, refl, sym, ap}
+use mathlib.Core.Path.{_≡_, refl, sym, ap, _∙_}
 use mathlib.Core.Bool.{true, false, _&&_, and-eq-true-iff}
 use mathlib.Core.List.{List}
 use Prim.Native.Nat.{ℕ}
 use borrow.Author.Tests.{ltb-true}
 use lib.Dec.{ltb}
+use lib.ListN.{length}
 use Rattle.layout.specs.Answer.{Told, got, refused, bare}
 use Rattle.layout.specs.Written.{Put}
-use Rattle.layout.specs.Refusals.{PLACE}
+use Rattle.layout.specs.Refusals.{PLACE, TABLE}
 use Rattle.tree.specs.Links.{Links, relinked, as-before, keptAt}
 use Rattle.tree.specs.Table.{Table, rows, flags, live, tableAt}
 use Rattle.tree.proofs.laws.Accepted.{table-got}
 use Rattle.tree.proofs.laws.Kept.{kept-got, keeping-got, keeping-refused}
 use Rattle.tree.proofs.laws.Sound.{accepted}
 use Rattle.shots.specs.Deleted.{ended}
-use Rattle.shots.specs.Linked.{DeletedLinked}
+use Rattle.shots.specs.Linked.{DeletedLinked, CollectedLinked}
+use Rattle.shots.specs.Collected.{collected, Lists}
+use Rattle.shots.specs.Facts.{Gathered, LinksOf}
 use Rattle.shots.proofs.Deleting.{flags-are}
-use Rattle.shots.proofs.Replies.{delete-refused, delete-no, delete-done}
+use Rattle.shots.proofs.Replies.{delete-refused, delete-no, delete-done, lent-no, lent-is, collect-refused, collect-done}
 
 -- ── delete ──
 
@@ -38,3 +41,20 @@ module _ (t : Table) (fs ns : List ℕ) (place : ℕ) where
         let a = and-eq-true-iff (ltb 0 place) (live (flags t) place) .0 h in
         let r = table-got t (sym sure) .1 in
         keeping-got t fs ns e (delete-done t place sure (accepted t sure) h p, relinked (rw (flags-are t r place (ltb-true 0 place (a .0)) (a .1)) l))
+
+-- ── collect ──
+
+unchanged : {t : Table} {fs ns old : List ℕ} → Lists t (t .handles) (t .parents) (t .ends) (t .marks) (t .names) × (fs ≡ fs) × (ns ≡ ns) × (old ≡ old)
+unchanged = (record { handles = refl; parents = refl; ends = refl; marks = refl; names = refl }, refl, refl, refl)
+
+module _ (t : Table) (fs ns old : List ℕ) where
+  pub recollected-lent : (length old ≡ 1024 → ⊥) → {why : Told} → why ≡ bare TABLE → CollectedLinked t fs ns old (refused why) (t .handles) (t .parents) (t .ends) (t .marks) (t .names) fs ns old
+  recollected-lent h f = record { own = λ _. (collect-refused t old (lent-no t old h f), as-before); other = λ _. (ap refused f, unchanged) }
+
+  module _ (h : length old ≡ 1024) where
+    pub recollected-refused : {why : Told} → refused why ≡ keptAt t fs ns → CollectedLinked t fs ns old (refused why) (t .handles) (t .parents) (t .ends) (t .marks) (t .names) fs ns old
+    recollected-refused e = keeping-refused t fs ns e (λ f. (collect-refused t old (f ∙ lent-is t old h), as-before)) unchanged
+
+    pub recollected-done : {m n : ℕ} → got tt m ≡ keptAt t fs ns → {hs ps es ms bs fs′ ns′ new : List ℕ} → Gathered t old n hs ps es ms bs new → LinksOf (collected t) fs′ ns′
+        → CollectedLinked t fs ns old (got tt n) hs ps es ms bs fs′ ns′ new
+    recollected-done e g l = keeping-got t fs ns e (collect-done t old (kept-got t fs ns e .1 ∙ lent-is t old h) g, relinked (l .links))

@@ -14,10 +14,10 @@ use Rattle.layout.specs.Refusals.{PLACE, TABLE, ROOM}
 use Rattle.layout.proofs.laws.Writing.{refusal, done}
 use Rattle.tree.specs.Table.{Table, table, rows, flags, live, startOf, nameAt, tableAt}
 use Rattle.shots.specs.Deleted.{endedFrom, deleteSaid}
-use Rattle.shots.specs.Collected.{alive, liveNames, lentAt, Leaves, collectAt, Collected}
+use Rattle.shots.specs.Collected.{alive, liveNames, lentAt, Leaves, Lists, collectAt, Collected}
 use Rattle.shots.specs.Refusals.{TAKEN}
 use Rattle.shots.specs.Added.{with, base, newPlaces, roomAt, addAt, Adds}
-use Rattle.shots.specs.Facts.{Gathered, Room, Based, Lists}
+use Rattle.shots.specs.Facts.{Gathered, Room, Based}
 use Rattle.tree.proofs.laws.Sound.{Sound, marks-long}
 use Rattle.shots.proofs.Endings.{ended-long}
 

@@ -1,17 +1,18 @@
 -- What the table's rule gives, as facts of the whole lists: the private functions ask for these. No public promise names them.
 -- Assumes nothing.
 use mathlib.Core.Path.{_≡_}
-use mathlib.Core.Bool.{Bool, _&&_}
+use mathlib.Core.Bool.{Bool, true, _&&_}
 use mathlib.Core.List.{List}
 use Prim.Native.Nat.{ℕ, _+_, _≤_, _<_}
 use lib.Dec.{eqb, ltb}
-use lib.ListN.{length, getD}
+use lib.ListN.{length, getD, take}
 use Rattle.layout.specs.Answer.{pick}
 use Rattle.tree.specs.Listed.{times}
-use Rattle.tree.specs.Table.{Table, flags, startOf, endOf}
+use Rattle.tree.specs.Links.{Links}
+use Rattle.tree.specs.Table.{Table, rows, flags, live, startOf, endOf}
 use Rattle.shots.specs.Deleted.{under}
 use Rattle.shots.specs.Added.{lastEnd, base, newPlaces}
-use Rattle.shots.specs.Collected.{alive, places, collected, ahead}
+use Rattle.shots.specs.Collected.{alive, keptBy, places, collected, ahead}
 
 -- the first n ends rise
 pub record Rises (n : ℕ) (es : List ℕ) : Type 0 where
@@ -40,6 +41,14 @@ pub record Fronted (front old new : List ℕ) (n : ℕ) : Type 0 where
   pub list : new ≡ ahead front old
   pub size : n ≡ length front
   pub room : n ≤ length old
+
+-- live objects moved down by these new places
+pub record Lowered (t : Table) (news hs ps es ms ns : List ℕ) : Type 0 where
+  pub handles : hs ≡ collected t .handles
+  pub parents : ps ≡ ahead (keptBy (λ p. getD news p 0) (flags t) (t .parents)) (t .parents)
+  pub ends : es ≡ collected t .ends
+  pub marks : ms ≡ collected t .marks
+  pub names : ns ≡ collected t .names
 
 -- a table collected, with its new places
 pub record Gathered (t : Table) (old : List ℕ) (n : ℕ) (hs ps es ms ns new : List ℕ) : Type 0 where
@@ -71,14 +80,6 @@ pub record Based (t : Table) (size : ℕ) (old : List ℕ) (n : ℕ) (hs ps es m
   pub names : ns ≡ base t size .names
   pub news : new ≡ ahead (newPlaces t size) old
 
--- lists that are a table's
-pub record Lists (t : Table) (hs ps es ms ns : List ℕ) : Type 0 where
-  pub handles : hs ≡ t .handles
-  pub parents : ps ≡ t .parents
-  pub ends : es ≡ t .ends
-  pub marks : ms ≡ t .marks
-  pub names : ns ≡ t .names
-
 -- ── links ──
 
 -- 0 at the places of a list, the others as they were
@@ -101,3 +102,19 @@ pub record Falling (ps : List ℕ) (has : ℕ → Bool) (place : ℕ) (old : Lis
   pub once : (k : ℕ) → times k list ≡ pick (has k && under ps place k) 1 0
   pub inside : Inside list (length ps)
   pub fronted : Fronted list old new n
+
+-- 0 from a place on, before it as it was
+pub record Blank (n : ℕ) (old new : List ℕ) : Type 0 where
+  pub long : length new ≡ length old
+  pub before : (k : ℕ) → k < n → getD new k 0 ≡ getD old k 0
+  pub none : (k : ℕ) → n ≤ k → getD new k 0 ≡ 0
+
+-- what is live stands where the live ones before it are counted, and names a new place; behind the live ones stands 0
+pub record Carried (ms news old new : List ℕ) : Type 0 where
+  pub long : length new ≡ length old
+  pub each : (k : ℕ) → live ms k ≡ true → getD new (alive (take k ms)) 0 ≡ getD news (getD old k 0) 0
+  pub none : (k : ℕ) → alive ms ≤ k → getD new k 0 ≡ 0
+
+-- the links of a table
+pub record LinksOf (t : Table) (fs ns : List ℕ) : Type 0 where
+  pub links : Links (rows t) (live (flags t)) fs ns

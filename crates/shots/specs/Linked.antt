@@ -8,7 +8,12 @@ use Rattle.layout.specs.Written.{Wrote}
 use Rattle.tree.specs.Links.{Relinked, Keeping}
 use Rattle.tree.specs.Table.{Table}
 use Rattle.shots.specs.Deleted.{deleted, deleteSaid}
+use Rattle.shots.specs.Collected.{collected, Lists, Collected}
 
 abbrev pub DeletedLinked : Table → List ℕ → List ℕ → ℕ → Answer (Unit {0}) → List ℕ → List ℕ → List ℕ → Type 0
 DeletedLinked t fs ns place answer ms fs′ ns′ =
     Keeping t fs ns answer (Wrote (deleteSaid t place) (t .marks) answer ms × Relinked (deleted t place) fs ns answer fs′ ns′) ((ms ≡ t .marks) × (fs′ ≡ fs) × (ns′ ≡ ns))
+
+abbrev pub CollectedLinked : Table → List ℕ → List ℕ → List ℕ → Answer (Unit {0}) → List ℕ → List ℕ → List ℕ → List ℕ → List ℕ → List ℕ → List ℕ → List ℕ → Type 0
+CollectedLinked t fs ns old answer hs ps es ms bs fs′ ns′ new =
+    Keeping t fs ns answer (Collected t old answer hs ps es ms bs new × Relinked (collected t) fs ns answer fs′ ns′) (Lists t hs ps es ms bs × (fs′ ≡ fs) × (ns′ ≡ ns) × (new ≡ old))

@@ -5,6 +5,7 @@ mod deletion;
 
 pub use addition::add;
 pub use collection::collect;
+pub use collection::collect_linked;
 pub use deletion::delete;
 pub use deletion::delete_linked;
 use layout::Refusal;

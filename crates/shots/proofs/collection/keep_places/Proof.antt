@@ -1,18 +1,18 @@
--- `shots::collection::keep_parents`: the loop owes what is kept of the entries that are left, which are as they were. Assumes nothing.
+-- `shots::collection::keep_places`: the loop owes what is kept of the entries that are left, which are as they were. Assumes nothing.
 use mathlib.Core.Logic.{⊎-elim}
 use Prim.Native.Nat.{_-_}
 use native.Mathlib.Omega.{arith}
 use borrow.Author.Tests.{lt-ltb, le-ltb}
 use lib.ListN.{length, getD}
 use Rattle.shots.proofs.Movings.{Moving, moving-start, moving-reads, moving-hit, moving-skip, moving-end}
-use Rattle.shots.proofs.collection.keep_parents.Statement.{statement}
-use Rattle.shots.proofs.collection.keep_parents.Tie as tie
+use Rattle.shots.proofs.collection.keep_places.Statement.{statement}
+use Rattle.shots.proofs.collection.keep_places.Tie as tie
 
 abbrev Inv-loop : tie.InvT-loop
-Inv-loop marks news parents₀ n₀ k₀ parents n k = Moving (λ p. getD news p 0) marks parents₀ parents n k
+Inv-loop marks news list₀ n₀ k₀ list n k = Moving (λ p. getD news p 0) marks list₀ list n k
 
 abbrev μ-loop : tie.MeasureT-loop
-μ-loop marks news parents₀ n₀ k₀ parents n k = length marks - k
+μ-loop marks news list₀ n₀ k₀ list n k = length marks - k
 
 loop-holds : tie.Need-loop-holds Inv-loop μ-loop
 loop-holds c = moving-start
@@ -29,17 +29,17 @@ slice-read-p c = omega (arith, c .before .before .before .before .before .pre .1
 cast-p : tie.Need-cast-p Inv-loop μ-loop
 cast-p c = omega (arith, c .slice-known .given (c .before .before .before .before .loop .k))
 
-mul-parents : tie.Need-mul-parents Inv-loop μ-loop
-mul-parents c = omega (arith, c .slice-known .given (c .before .before .before .before .loop .k))
+mul-list : tie.Need-mul-list Inv-loop μ-loop
+mul-list c = omega (arith, c .slice-known .given (c .before .before .before .before .loop .k))
 
-shared-slice-read-parents : tie.Need-shared-slice-read-parents Inv-loop μ-loop
-shared-slice-read-parents c = omega (arith, c .before .before .before .before .before .before .pre .1 .1 .hung (c .before .before .before .before .before .loop .k) (c .before .before .before .before .loop-test .taken), moving-reads (c .before .before .before .before .before .loop .inv) (c .before .before .before .before .before .before .pre .1 .0))
+shared-slice-read-list : tie.Need-shared-slice-read-list Inv-loop μ-loop
+shared-slice-read-list c = omega (arith, c .before .before .before .before .before .before .pre .1 .1 .hung (c .before .before .before .before .before .loop .k) (c .before .before .before .before .loop-test .taken), moving-reads (c .before .before .before .before .before .loop .inv) (c .before .before .before .before .before .before .pre .1 .0))
 
-mul-parents-2 : tie.Need-mul-parents-2 Inv-loop μ-loop
-mul-parents-2 c = omega (arith, c .before .before .before .before .before .before .pre .0, c .before .before .before .before .before .loop .inv .behind)
+mul-list-2 : tie.Need-mul-list-2 Inv-loop μ-loop
+mul-list-2 c = omega (arith, c .before .before .before .before .before .before .pre .0, c .before .before .before .before .before .loop .inv .behind)
 
-slice-write-parents : tie.Need-slice-write-parents Inv-loop μ-loop
-slice-write-parents c = omega (arith, c .before .before .before .before .before .before .pre .1 .0, c .before .before .before .before .before .loop .inv .owes .long, c .before .before .before .before .before .loop .inv .behind)
+slice-write-list : tie.Need-slice-write-list Inv-loop μ-loop
+slice-write-list c = omega (arith, c .before .before .before .before .before .before .pre .1 .0, c .before .before .before .before .before .loop .inv .owes .long, c .before .before .before .before .before .loop .inv .behind)
 
 add-n : tie.Need-add-n Inv-loop μ-loop
 add-n c = omega (arith, c .before .before .before .before .before .before .pre .0, c .before .before .before .before .before .loop .inv .behind)
@@ -67,8 +67,8 @@ same-length c = c .before .loop .inv .owes .long
 returns : tie.Need-returns Inv-loop μ-loop
 returns c = moving-end (c .before .loop .inv) (c .before .before .pre .1 .0) (c .loop-test .left)
 
-pub keep-parents-spec : {M : Type 1} → statement M
-keep-parents-spec =
+pub keep-places-spec : {M : Type 1} → statement M
+keep-places-spec =
     tie.close
     (tie.spec
     Inv-loop
@@ -78,10 +78,10 @@ keep-parents-spec =
     mul-p
     slice-read-p
     cast-p
-    mul-parents
-    shared-slice-read-parents
-    mul-parents-2
-    slice-write-parents
+    mul-list
+    shared-slice-read-list
+    mul-list-2
+    slice-write-list
     add-n
     add-k
     loop-less
