@@ -16,6 +16,7 @@ mod objects;
 mod print;
 mod question;
 mod reads;
+mod recorded;
 mod show;
 mod slice;
 mod table;
