@@ -75,15 +75,15 @@ one-view-paths-given t out ends o o′ e e′ r s x y =
 
 pub one-walk-linked-given : (t : Table) {fs ns old new new′ : List ℕ} {r s : ℕ}
     → Tells (λ a. Keeping t fs ns a (Walked t old a new) (new ≡ old)) r → Tells (λ a. Keeping t fs ns a (Walked t old a new′) (new′ ≡ old)) s → (r ≡ s) × (new ≡ new′)
-one-walk-linked-given t x y =
-    let both = one-walk-linked t (spoken (x .answer)) (spoken (y .answer)) (rw says-spoken (x .allows)) (rw says-spoken (y .allows)) in
+one-walk-linked-given t {fs} {ns} {old} {new} {new′} x y =
+    let both = one-walk-linked t {fs = fs} {ns = ns} {old = old} {new = new} {new′ = new′} (spoken (x .answer)) (spoken (y .answer)) (rw says-spoken (x .allows)) (rw says-spoken (y .allows)) in
     (same-word x y (spoken-one (x .answer) (y .answer) (both .0)), both .1)
 
 pub one-paths-linked-given : (t : Table) {fs ns out ends o o′ b b′ : List ℕ} {r s : ℕ}
     → Tells (λ a. Keeping t fs ns a (AllPaths t out ends a o b) ((o ≡ out) × (b ≡ ends))) r
     → Tells (λ a. Keeping t fs ns a (AllPaths t out ends a o′ b′) ((o′ ≡ out) × (b′ ≡ ends))) s → (r ≡ s) × (o ≡ o′) × (b ≡ b′)
-one-paths-linked-given t x y =
-    let all = one-paths-linked t (spoken (x .answer)) (spoken (y .answer)) (rw says-spoken (x .allows)) (rw says-spoken (y .allows)) in
+one-paths-linked-given t {fs} {ns} {out} {ends} {o} {o′} {b} {b′} x y =
+    let all = one-paths-linked t {fs = fs} {ns = ns} {out = out} {ends = ends} {o = o} {o′ = o′} {b = b} {b′ = b′} (spoken (x .answer)) (spoken (y .answer)) (rw says-spoken (x .allows)) (rw says-spoken (y .allows)) in
     (same-word x y (spoken-one (x .answer) (y .answer) (all .0)), all .1, all .2)
 
 -- every answer is that of a test's case, too
@@ -96,8 +96,8 @@ says-tested (got u n) = refl
 says-tested (refused t) = refl
 
 pub one-linked-given : (t : Table) {fs ns f g m o : List ℕ} {r s : ℕ} → Tells (λ a. Linked t fs ns a f m) r → Tells (λ a. Linked t fs ns a g o) s → (r ≡ s) × (f ≡ g) × (m ≡ o)
-one-linked-given t x y =
-    let all = one-linked t (tested (x .answer)) (tested (y .answer)) (rw says-tested (x .allows)) (rw says-tested (y .allows)) in
+one-linked-given t {fs} {ns} {f} {g} {m} {o} x y =
+    let all = one-linked t {fs = fs} {ns = ns} {f = f} {g = g} {m = m} {o = o} (tested (x .answer)) (tested (y .answer)) (rw says-tested (x .allows)) (rw says-tested (y .allows)) in
     (same-word x y (sym (says-tested (x .answer)) ∙ ap saysChecked (all .0) ∙ says-tested (y .answer)), all .1, all .2)
 
 pub one-collected-given : {t : Table} {old hs hs′ ps ps′ es es′ ms ms′ ns ns′ new new′ : List ℕ} {r s : ℕ}

@@ -1,10 +1,7 @@
 // An object table that keeps its links: they are made; the walk and all paths go along them; an object deleted, the live ones collected, one added.
 ghost use mathlib.Core.Path.{_≡_};
-ghost use Rattle.layout.specs.Written.{Wrote};
-ghost use Rattle.shots.specs.Added.{addAt, addedTo, Adds};
-ghost use Rattle.shots.specs.Collected.{collected, Collected};
-ghost use Rattle.shots.specs.Deleted.{deleted, deleteSaid};
-ghost use Rattle.tree.specs.Links.{Keeping, Linked, Relinked};
+ghost use Rattle.shots.specs.Linked.{DeletedLinked, CollectedLinked};
+ghost use Rattle.tree.specs.Links.{Keeping, Linked};
 ghost use Rattle.tree.specs.Path.{Walked, AllPaths};
 ghost use Rattle.tree.specs.Table.{table};
 ghost use Rattle.abi.specs.Answered.{Tells};
@@ -26,7 +23,14 @@ pub extern "C" fn ptp_table_link(
     ensures { λ r. ⌜ Tells (λ a. Linked (table (now (handles .entry)) (now (parents .entry)) (now (ends .entry)) (now (marks .entry)) count (now (names .entry))) (now (first .entry)) (now (next .entry)) a (now (first .exit)) (now (next .exit))) r ⌝ }
 {
     answer::told(object_table::counted(tree::link(
-        handles, parents, ends, marks, count, names, first, next,
+        handles,
+        parents,
+        ends,
+        marks,
+        count,
+        names,
+        first,
+        next,
     )))
 }
 
@@ -46,7 +50,15 @@ pub extern "C" fn ptp_linked_walk(
     ensures { λ r. ⌜ Tells (λ a. Keeping (table (now (handles .entry)) (now (parents .entry)) (now (ends .entry)) (now (marks .entry)) count (now (names .entry))) (now (first .entry)) (now (next .entry)) a (Walked (table (now (handles .entry)) (now (parents .entry)) (now (ends .entry)) (now (marks .entry)) count (now (names .entry))) (now (places .entry)) a (now (places .exit))) (now (places .exit) ≡ now (places .entry))) r ⌝ }
 {
     answer::told(tree::walk_linked(
-        handles, parents, ends, marks, count, names, first, next, places,
+        handles,
+        parents,
+        ends,
+        marks,
+        count,
+        names,
+        first,
+        next,
+        places,
     ))
 }
 
@@ -67,7 +79,16 @@ pub extern "C" fn ptp_linked_paths(
     ensures { λ r. ⌜ Tells (λ a. Keeping (table (now (handles .entry)) (now (parents .entry)) (now (ends .entry)) (now (marks .entry)) count (now (names .entry))) (now (first .entry)) (now (next .entry)) a (AllPaths (table (now (handles .entry)) (now (parents .entry)) (now (ends .entry)) (now (marks .entry)) count (now (names .entry))) (now (out .entry)) (now («out_ends» .entry)) a (now (out .exit)) (now («out_ends» .exit))) ((now (out .exit) ≡ now (out .entry)) × (now («out_ends» .exit) ≡ now («out_ends» .entry)))) r ⌝ }
 {
     answer::told(tree::paths_linked(
-        handles, parents, ends, marks, count, names, first, next, out, out_ends,
+        handles,
+        parents,
+        ends,
+        marks,
+        count,
+        names,
+        first,
+        next,
+        out,
+        out_ends,
     ))
 }
 
@@ -84,9 +105,45 @@ pub extern "C" fn ptp_linked_delete(
     next: &mut [u16],
     place: usize,
 ) -> u64
-    ensures { λ r. ⌜ Tells (λ a. Keeping (table (now (handles .entry)) (now (parents .entry)) (now (ends .entry)) (now (marks .entry)) count (now (names .entry))) (now (first .entry)) (now (next .entry)) a (Wrote (deleteSaid (table (now (handles .entry)) (now (parents .entry)) (now (ends .entry)) (now (marks .entry)) count (now (names .entry))) place) (now (marks .entry)) a (now (marks .exit)) × Relinked (deleted (table (now (handles .entry)) (now (parents .entry)) (now (ends .entry)) (now (marks .entry)) count (now (names .entry))) place) (now (first .entry)) (now (next .entry)) a (now (first .exit)) (now (next .exit))) ((now (marks .exit) ≡ now (marks .entry)) × (now (first .exit) ≡ now (first .entry)) × (now (next .exit) ≡ now (next .entry)))) r ⌝ }
+    ensures { λ r. ⌜ Tells (λ a. DeletedLinked (table (now (handles .entry)) (now (parents .entry)) (now (ends .entry)) (now (marks .entry)) count (now (names .entry))) (now (first .entry)) (now (next .entry)) place a (now (marks .exit)) (now (first .exit)) (now (next .exit))) r ⌝ }
 {
     answer::told(object_table::counted(shots::delete_linked(
-        handles, parents, ends, marks, count, names, first, next, place,
+        handles,
+        parents,
+        ends,
+        marks,
+        count,
+        names,
+        first,
+        next,
+        place,
+    )))
+}
+
+// The live objects moved down, and the new place of each. The answer is the new count.
+#[no_mangle]
+pub extern "C" fn ptp_linked_collect(
+    handles: &mut [u32],
+    parents: &mut [u16],
+    ends: &mut [u32],
+    marks: &mut [u8],
+    count: usize,
+    names: &mut [u8],
+    first: &mut [u16],
+    next: &mut [u16],
+    news: &mut [u16],
+) -> u64
+    ensures { λ r. ⌜ Tells (λ a. CollectedLinked (table (now (handles .entry)) (now (parents .entry)) (now (ends .entry)) (now (marks .entry)) count (now (names .entry))) (now (first .entry)) (now (next .entry)) (now (news .entry)) a (now (handles .exit)) (now (parents .exit)) (now (ends .exit)) (now (marks .exit)) (now (names .exit)) (now (first .exit)) (now (next .exit)) (now (news .exit))) r ⌝ }
+{
+    answer::told(object_table::counted(shots::collect_linked(
+        handles,
+        parents,
+        ends,
+        marks,
+        count,
+        names,
+        first,
+        next,
+        news,
     )))
 }

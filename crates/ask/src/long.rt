@@ -7,6 +7,7 @@ use crate::mended;
 use crate::objects;
 use crate::print;
 use crate::reads;
+use crate::recorded;
 use crate::show;
 use crate::slice;
 use crate::told;
@@ -80,6 +81,7 @@ pub(crate) fn of(
         b'k' => objects::link(a, line, numbers, text, at),
         b's' => kept::row(a, src, text, at),
         b'f' => kept::find(a, src, numbers, text, at),
+        b'R' => recorded::answer(src, text, at),
         b'c' => copy(a, src, text, at),
         b'm' => mended::answer(a, src, text, at),
         b'L' => listed::answer(src, text, at),

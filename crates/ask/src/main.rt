@@ -17,6 +17,7 @@ mod packets;
 mod print;
 mod question;
 mod reads;
+mod recorded;
 mod show;
 mod slice;
 mod table;

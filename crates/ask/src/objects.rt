@@ -444,7 +444,15 @@ fn changed_linked(
     let count = a.numbers[4];
     if !is_added {
         return collected(shots::collect_linked(
-            handles, parents, ends, marks, count, names, first, next, news,
+            handles,
+            parents,
+            ends,
+            marks,
+            count,
+            names,
+            first,
+            next,
+            news,
         ));
     }
     added(shots::add_linked(
@@ -481,11 +489,33 @@ fn put_changed(
 ) -> usize {
     let mut news = places_room();
     if !is_linked {
-        let t = changed(is_added, a, line, handles, parents, ends, marks, names, &mut news);
+        let t = changed(
+            is_added,
+            a,
+            line,
+            handles,
+            parents,
+            ends,
+            marks,
+            names,
+            &mut news,
+        );
         let o = show::tell(text, at, line, t);
         return put_table(text, o, handles, parents, ends, marks, names, &news);
     }
-    let t = changed_linked(is_added, a, line, handles, parents, ends, marks, names, first, next, &mut news);
+    let t = changed_linked(
+        is_added,
+        a,
+        line,
+        handles,
+        parents,
+        ends,
+        marks,
+        names,
+        first,
+        next,
+        &mut news,
+    );
     let o = show::tell(text, at, line, t);
     let q = put_table(text, o, handles, parents, ends, marks, names, &news);
     put_links(text, q, first, next)

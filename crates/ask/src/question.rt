@@ -10,7 +10,7 @@ pub(crate) const READS: u8 = b'r';
 
 pub(crate) const WRITES: u8 = b'w';
 
-const TABLE: [u8; 1050] = *b"\
+const TABLE: [u8; 1065] = *b"\
     response-name rR 2;\
     command-name rC 2;\
     value rv 28b;\
@@ -70,6 +70,7 @@ const TABLE: [u8; 1050] = *b"\
     settings-store wk ebbr;\
     record rr b;\
     write-record wr 2br;\
+    recording lR b;\
     copy lc br;\
     mend lm brm;\
     listing lL b";
