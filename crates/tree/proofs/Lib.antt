@@ -12,3 +12,4 @@ pub mod Passing
 pub mod Linked
 pub mod Folding
 pub mod Viewing
+pub mod FolderView

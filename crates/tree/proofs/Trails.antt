@@ -46,7 +46,7 @@ module _ (ps es ns l : List ℕ) (i : ℕ) where
   unfolding endsFrom
   ends-none h at = rw (drop-of-length-le l)
 
-ends-long : (ps es ns l : List ℕ) (at : ℕ) → length (endsFrom at ps es ns l) ≡ length l
+pub ends-long : (ps es ns l : List ℕ) (at : ℕ) → length (endsFrom at ps es ns l) ≡ length l
 unfolding endsFrom
 ends-long ps es ns [] at = refl
 ends-long ps es ns (k ∷ l) at = ap suc (ends-long ps es ns l (at + length (pathOf ps es ns k)))

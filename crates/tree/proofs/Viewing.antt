@@ -1,27 +1,27 @@
 -- The folder view as the code makes it: links lead down, so the cycle lists what hangs below the root by the parents; and what is given of it.
 -- Assumes nothing.
 use mathlib.Core.Path.{_≡_, refl, sym, ap, _∙_}
-use mathlib.Core.Bool.{Bool, true, false}
+use mathlib.Core.Bool.{Bool}
 use mathlib.Core.List.{List, [], _∷_, _++_}
 use Prim.Native.Nat.{ℕ, zero, suc, _+_, _-_, _≤_, _<_}
 use native.Mathlib.Omega.{arith}
 use lib.ListN.{length, getD, take, drop}
 use lib.Seq.{sets-eq, take-at}
-use Rattle.layout.specs.Answer.{Told, Answer, got, refused, pick}
+use Rattle.layout.specs.Answer.{Told, Answer, got, refused}
 use Rattle.layout.specs.Written.{says, put, Put, Wrote}
 use Rattle.layout.proofs.laws.Numbers.{zero-one}
 use Rattle.layout.proofs.laws.Writing.{long}
 use Rattle.tree.specs.Facts.{Ruled, Marks, Listing, PathsGiven}
-use Rattle.tree.specs.Kids.{hangs, kidsIn, kids}
+use Rattle.tree.specs.Kids.{kids}
 use Rattle.tree.specs.Links.{Lowest, lowest, nobody, Child, Links, Linking}
 use Rattle.tree.specs.Path.{pathsSaid, endsSaid}
 use Rattle.tree.specs.Table.{Table, rows, stops, flags, live, parent, tableAt}
 use Rattle.tree.specs.Way.{way, Left}
 use Rattle.tree.specs.View.{Folders, Viewed, ViewPaths}
 use Rattle.tree.specs.Below.{join, under, chained, full, Down, viewOf}
+use Rattle.tree.proofs.Linked.{chain-is}
 use Rattle.tree.proofs.Trails.{listed-few, listing-by, walk-refused, all-refused}
 use Rattle.tree.proofs.laws.Below.{by-mark}
-use Rattle.tree.proofs.laws.Chains.{chain-kids}
 use Rattle.tree.proofs.laws.Counts.{equal}
 use Rattle.tree.proofs.laws.Links.{linking-links}
 use Rattle.tree.proofs.laws.Sound.{Sound}
@@ -79,27 +79,13 @@ module _ (held kept : ℕ → List ℕ) (same : (p : ℕ) → held p ≡ kept p)
   under-same (suc f) p =
       ap (λ (w : List ℕ). p ∷ w) (ap (join (under f held)) (same p) ∙ join-same (under f held) (under f kept) (under-same f) (kept p))
 
-kids-few : (m : ℕ) (ps : List ℕ) (has : ℕ → Bool) (k p : ℕ) → length (kidsIn m ps has k p) ≤ m
-unfolding kidsIn
-kids-few zero ps has k p = omega arith
-kids-few (suc m) ps has k p = by (hangs ps has p k) (kids-few m ps has (suc k) p)
-  where
-    by : (b : Bool) → length (kidsIn m ps has (suc k) p) ≤ m → length (pick b (k ∷ kidsIn m ps has (suc k) p) (kidsIn m ps has (suc k) p)) ≤ suc m
-    by true h = omega arith
-    by false h = omega arith
-
 module _ {ps : List ℕ} {has : ℕ → Bool} (rule : Ruled ps) (marks : Marks ps has) where
   module _ {fs ns : List ℕ} (s : Linking ps has 1 fs ns) where
-    chained-kids : (p : ℕ) → chained fs ns p ≡ kids ps has p
-    unfolding kids
-    chained-kids p =
-        chain-kids s p rule (length ns) (let a = kids-few (length ps - suc p) ps has (suc p) p in let b = rule .few in let n = s .nexts in omega arith)
-
     pub made-view : full fs ns 0 ≡ viewOf ps has
     unfolding full viewOf
     made-view =
         let m : length fs - 0 ≡ 1024 = let n = s .firsts in omega arith in
-        ap (λ (f : ℕ). under f (chained fs ns) 0) m ∙ under-same (chained fs ns) (kids ps has) chained-kids 1024 0
+        ap (λ (f : ℕ). under f (chained fs ns) 0) m ∙ under-same (chained fs ns) (kids ps has) (chain-is rule marks (linking-links marks s)) 1024 0
 
     pub made-down : Down fs ns
     made-down = links-down rule marks (linking-links marks s)
