@@ -160,8 +160,8 @@ fn next(a: Args, letter: u8, line: &mut [u8], numbers: &mut [u32]) -> Args {
 // The words behind a place of the line, one for each letter, and nothing after them.
 pub(crate) fn read(signature: &[u8], line: &mut [u8], at: usize, numbers: &mut [u32]) -> Args {
     let mut a = Args {
-        numbers: [0usize; 9],
-        counts: [0usize; 9],
+        numbers: [0usize; 11],
+        counts: [0usize; 11],
         start: 0,
         count: 0,
         room: 0,

@@ -521,13 +521,15 @@ fn put_changed(
     put_links(text, q, first, next)
 }
 
-// On lists of its own, for they change.
-pub(crate) fn change(
+// On lists of its own, for they change; the links are their caller's.
+fn change_lists(
     is_added: bool,
     is_linked: bool,
     a: Args,
     line: &[u8],
     numbers: &[u32],
+    first: &mut [u16],
+    next: &mut [u16],
     text: &mut [u8],
     at: usize,
 ) -> usize {
@@ -535,15 +537,11 @@ pub(crate) fn change(
     let mut ps = width::halves_room();
     let mut es = width::numbers_room();
     let mut ms = width::bytes_room();
-    let mut fs = width::halves_room();
-    let mut xs = width::halves_room();
     let mut ns = crate::out_room();
     let h = width::to32(handles(a, numbers), &mut hs);
     let p = width::to16(parents(a, numbers), &mut ps);
     let e = width::to32(ends(a, numbers), &mut es);
     let m = width::to8(marks(a, numbers), &mut ms);
-    let f = width::to16(first(a, numbers), &mut fs);
-    let x = width::to16(next(a, numbers), &mut xs);
     let given = names(a, line);
     let n = layout::copy(given, 0, given.len(), &mut ns, 0);
     put_changed(
@@ -556,6 +554,33 @@ pub(crate) fn change(
         slice::part32_mut(&mut es, 0, e),
         slice::part_mut(&mut ms, 0, m),
         slice::part_mut(&mut ns, 0, n),
+        first,
+        next,
+        text,
+        at,
+    )
+}
+
+// A table that keeps no links has none among its words.
+pub(crate) fn change(
+    is_added: bool,
+    is_linked: bool,
+    a: Args,
+    line: &[u8],
+    numbers: &[u32],
+    text: &mut [u8],
+    at: usize,
+) -> usize {
+    let mut fs = width::halves_room();
+    let mut xs = width::halves_room();
+    let f = width::to16(first(a, numbers), &mut fs);
+    let x = width::to16(next(a, numbers), &mut xs);
+    change_lists(
+        is_added,
+        is_linked,
+        a,
+        line,
+        numbers,
         slice::part16_mut(&mut fs, f),
         slice::part16_mut(&mut xs, x),
         text,
