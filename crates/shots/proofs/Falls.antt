@@ -111,11 +111,11 @@ skip-one {place} {behind} {l} at h e f = record {
 }
 
 -- a link that is not 0 names a child, the lowest
-named : {ps : List ℕ} {has : ℕ → Bool} {p m k : ℕ} → Lowest ps has p m k → 0 < k → Child ps has p m k
+pub named : {ps : List ℕ} {has : ℕ → Bool} {p m k : ℕ} → Lowest ps has p m k → 0 < k → Child ps has p m k
 named (lowest c f) h = c
 named (nobody f) h = absurd (omega arith)
 
-lowest-of : {ps : List ℕ} {has : ℕ → Bool} {p m k x : ℕ} → Lowest ps has p m k → 0 < m → Child ps has p m x → (0 < k) × (k ≤ x)
+pub lowest-of : {ps : List ℕ} {has : ℕ → Bool} {p m k x : ℕ} → Lowest ps has p m k → 0 < m → Child ps has p m x → (0 < k) × (k ≤ x)
 lowest-of {x = x} (lowest c f) h d = let l = c .least in (omega arith, f x d)
 lowest-of {x = x} (nobody f) h d = absurd (f x d)
 

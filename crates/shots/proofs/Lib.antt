@@ -13,3 +13,5 @@ pub mod Deleting
 pub mod Relinks
 pub mod Told
 pub mod Adding
+pub mod Appending
+pub mod Kept

@@ -11,16 +11,17 @@ use Rattle.layout.specs.Answer.{Told, got, refused, bare}
 use Rattle.layout.specs.Written.{Put}
 use Rattle.layout.specs.Refusals.{PLACE, TABLE}
 use Rattle.tree.specs.Links.{Links, relinked, as-before, keptAt}
-use Rattle.tree.specs.Table.{Table, rows, flags, live, tableAt}
+use Rattle.tree.specs.Table.{Table, rows, flags, live, nameAt, tableAt}
 use Rattle.tree.proofs.laws.Accepted.{table-got}
 use Rattle.tree.proofs.laws.Kept.{kept-got, keeping-got, keeping-refused}
 use Rattle.tree.proofs.laws.Sound.{accepted}
 use Rattle.shots.specs.Deleted.{ended}
-use Rattle.shots.specs.Linked.{DeletedLinked, CollectedLinked}
+use Rattle.shots.specs.Linked.{DeletedLinked, CollectedLinked, AddsLinked}
 use Rattle.shots.specs.Collected.{collected, Lists}
-use Rattle.shots.specs.Facts.{Gathered, LinksOf}
+use Rattle.shots.specs.Added.{addedTo, roomAt, Adds}
+use Rattle.shots.specs.Facts.{Gathered, LinksOf, objectAt}
 use Rattle.shots.proofs.Deleting.{flags-are}
-use Rattle.shots.proofs.Replies.{delete-refused, delete-no, delete-done, lent-no, lent-is, collect-refused, collect-done}
+use Rattle.shots.proofs.Replies.{delete-refused, delete-no, delete-done, lent-no, lent-is, collect-refused, collect-done, add-refused, add-no, add-through}
 
 -- ── delete ──
 
@@ -58,3 +59,23 @@ module _ (t : Table) (fs ns old : List ℕ) where
     pub recollected-done : {m n : ℕ} → got tt m ≡ keptAt t fs ns → {hs ps es ms bs fs′ ns′ new : List ℕ} → Gathered t old n hs ps es ms bs new → LinksOf (collected t) fs′ ns′
         → CollectedLinked t fs ns old (got tt n) hs ps es ms bs fs′ ns′ new
     recollected-done e g l = keeping-got t fs ns e (collect-done t old (kept-got t fs ns e .1 ∙ lent-is t old h) g, relinked (l .links))
+
+-- ── add ──
+
+module _ (t : Table) (fs ns old : List ℕ) {parent handle : ℕ} {name : List ℕ} where
+  pub added-lent : (length old ≡ 1024 → ⊥) → {why : Told} → why ≡ bare TABLE → AddsLinked t fs ns old parent handle name (refused why) (t .handles) (t .parents) (t .ends) (t .marks) (t .names) fs ns old
+  added-lent h f = record { own = λ _. (add-refused (lent-no t old h f), as-before); other = λ _. (ap refused f, unchanged) }
+
+  module _ (h : length old ≡ 1024) where
+    pub added-refused : {why : Told} → refused why ≡ keptAt t fs ns → AddsLinked t fs ns old parent handle name (refused why) (t .handles) (t .parents) (t .ends) (t .marks) (t .names) fs ns old
+    added-refused e = keeping-refused t fs ns e (λ f. (add-refused (f ∙ lent-is t old h), as-before)) unchanged
+
+    module _ {m : ℕ} (e : got tt m ≡ keptAt t fs ns) where
+      pub added-no : {why : Told} → refused why ≡ objectAt (flags t) (t .ends) (t .names) parent name
+          → AddsLinked t fs ns old parent handle name (refused why) (t .handles) (t .parents) (t .ends) (t .marks) (t .names) fs ns old
+      added-no f = keeping-got t fs ns e (add-no (kept-got t fs ns e .1 ∙ lent-is t old h) f, as-before)
+
+      pub added-done : live (flags t) parent ≡ true → {k n : ℕ} → got tt k ≡ nameAt name → {hs ps es ms bs fs′ ns′ new : List ℕ}
+          → Adds (roomAt t (length name)) t old parent handle name (got tt n) hs ps es ms bs new → LinksOf (addedTo t parent handle name) fs′ ns′
+          → AddsLinked t fs ns old parent handle name (got tt n) hs ps es ms bs fs′ ns′ new
+      added-done l f a g = keeping-got t fs ns e (add-through (kept-got t fs ns e .1 ∙ lent-is t old h) l f a, relinked (g .links))

@@ -3,16 +3,18 @@
 use mathlib.Core.Path.{_≡_}
 use mathlib.Core.Bool.{Bool, true, _&&_}
 use mathlib.Core.List.{List}
-use Prim.Native.Nat.{ℕ, _+_, _≤_, _<_}
+use Prim.Native.Nat.{ℕ, _+_, _-_, _≤_, _<_}
 use lib.Dec.{eqb, ltb}
-use lib.ListN.{length, getD, take}
-use Rattle.layout.specs.Answer.{pick}
+use lib.ListN.{length, getD, take, set}
+use Rattle.layout.specs.Answer.{Answer, got, refused, bare, pick, after}
+use Rattle.layout.specs.Refusals.{ROOM, PLACE}
 use Rattle.tree.specs.Listed.{times}
-use Rattle.tree.specs.Links.{Links}
-use Rattle.tree.specs.Table.{Table, rows, flags, live, startOf, endOf}
+use Rattle.tree.specs.Links.{Child, Links}
+use Rattle.tree.specs.Table.{Table, rows, flags, live, startOf, endOf, nameAt}
 use Rattle.shots.specs.Deleted.{under}
 use Rattle.shots.specs.Added.{lastEnd, base, newPlaces}
-use Rattle.shots.specs.Collected.{alive, keptBy, places, collected, ahead}
+use Rattle.shots.specs.Collected.{alive, keptBy, namesKept, places, collected, ahead}
+use Rattle.shots.specs.Refusals.{TAKEN}
 
 -- the first n ends rise
 pub record Rises (n : ℕ) (es : List ℕ) : Type 0 where
@@ -118,3 +120,18 @@ pub record Carried (ms news old new : List ℕ) : Type 0 where
 -- the links of a table
 pub record LinksOf (t : Table) (fs ns : List ℕ) : Type 0 where
   pub links : Links (rows t) (live (flags t)) fs ns
+
+-- one place more at the end of the chain of p
+pub data Appended (ps : List ℕ) (has : ℕ → Bool) (p place : ℕ) (fs ns : List ℕ) : List ℕ → List ℕ → Type 0 where
+  only : getD fs p 0 ≡ 0 → Appended ps has p place fs ns (set fs p place) ns
+  last : {k : ℕ} → Child ps has p 1 k → getD ns k 0 ≡ 0 → Appended ps has p place fs ns fs (set ns k place)
+
+-- ── what an object is refused with ──
+
+-- 19, then 9
+unfoldable pub spareAt : List ℕ → List ℕ → List ℕ → ℕ → Answer (Unit {0})
+spareAt ms es bs size = pick (eqb (alive ms) 1024) (refused (bare TAKEN)) (pick (ltb (length bs - length (namesKept 0 ms es bs)) size) (refused (bare ROOM)) (got tt 0))
+
+-- 12 for a parent that is not live, the name's, then these
+unfoldable pub objectAt : List ℕ → List ℕ → List ℕ → ℕ → List ℕ → Answer (Unit {0})
+objectAt ms es bs parent name = pick (live ms parent) (after (nameAt name) λ _ _. spareAt ms es bs (length name)) (refused (bare PLACE))

@@ -4,6 +4,7 @@ mod collection;
 mod deletion;
 
 pub use addition::add;
+pub use addition::add_linked;
 pub use collection::collect;
 pub use collection::collect_linked;
 pub use deletion::delete;
