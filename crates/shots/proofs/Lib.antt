@@ -10,3 +10,4 @@ pub mod Collecting
 pub mod Deleting
 pub mod Told
 pub mod Adding
+pub mod Views
