@@ -11,7 +11,7 @@ use Rattle.tree.specs.Path.{pathOf, joined, endsFrom, pathsSaid, endsSai
 
 module _ (t u : Table) (new : ℕ → ℕ) where
   -- the place that k became has its path
-  abbrev pub PathMoved : ℕ → Type 0
+  abbrev PathMoved : ℕ → Type 0
   PathMoved k = pathOf (rows u) (stops u) (u .names) (new k) ≡ pathOf (rows t) (stops t) (t .names) k
 
   joined-moved : {l : List ℕ} → Every PathMoved l → joined (rows u) (stops u) (u .names) (map new l) ≡ joined (rows t) (stops t) (t .names) l
