@@ -15,3 +15,4 @@ pub mod Told
 pub mod Adding
 pub mod Appending
 pub mod Kept
+pub mod Views

@@ -4,16 +4,16 @@
 use mathlib.Core.Path.{_≡_, refl, sym, ap, _∙_}
 use mathlib.Core.Bool.{Bool, true, false, _&&_}
 use mathlib.Core.List.{List, [], _∷_, _++_, map, append-assoc}
-use Prim.Native.Nat.{ℕ, suc, _+_, _-_, _≤_, _<_}
+use Prim.Native.Nat.{ℕ, _+_, _-_, _≤_, _<_}
 use native.Mathlib.Nat.{not-suc-le-zero}
 use native.Mathlib.Omega.{arith}
 use borrow.Author.Tests.{eq-eqb, ne-eqb, le-leb, leb-true}
 use lib.Dec.{eqb, leb, ltb}
 use lib.ListN.{length, getD, take, drop, length-append}
 use lib.Seq.{take-at, drop-at}
-use Rattle.layout.specs.Answer.{Told, Answer, got, refused, bare, pick}
+use Rattle.layout.specs.Answer.{Answer, got, refused, bare, pick}
 use Rattle.layout.specs.Refusals.{ROOM}
-use Rattle.layout.specs.Written.{Said, says, no, Wrote, saysWritten, answerOf, leftOf}
+use Rattle.layout.specs.Written.{says, no, Wrote, saysWritten, answerOf, leftOf}
 use Rattle.layout.specs.declared.Written.{Written}
 use Rattle.layout.proofs.laws.Determined.{tells-written}
 use Rattle.layout.proofs.laws.Did.{Whole, whole}

@@ -2,7 +2,7 @@
 -- Assumes nothing.
 use mathlib.Core.Path.{_≡_, refl, sym, ap, _∙_}
 use mathlib.Core.Bool.{Bool}
-use mathlib.Core.List.{List, [], _∷_, _++_}
+use mathlib.Core.List.{List, [], _∷_}
 use Prim.Native.Nat.{ℕ, zero, suc, _+_, _-_, _≤_, _<_}
 use native.Mathlib.Omega.{arith}
 use lib.ListN.{length, getD, take, drop}
@@ -40,7 +40,7 @@ module _ {ps : List ℕ} {has : ℕ → Bool} (rule : Ruled ps) (marks : Marks p
   lowest-in (nobody f) = omega arith
 
   module _ {fs ns : List ℕ} (links : Links ps has fs ns) where
-    pub links-down : Down fs ns
+    links-down : Down fs ns
     links-down = record {
       few = let n = links .firsts in omega arith;
       long = links .nexts ∙ sym (links .firsts);
@@ -67,12 +67,12 @@ module _ {ps : List ℕ} {has : ℕ → Bool} (rule : Ruled ps) (marks : Marks p
 
 -- ── by links and by parents ──
 
+join-same : (g h : ℕ → List ℕ) → ((c : ℕ) → g c ≡ h c) → (l : List ℕ) → join g l ≡ join h l
+join-same g h e [] = refl
+join-same g h e (c ∷ l) = rw (e c, join-same g h e l)
+
 -- where the children are the same, so is all below
 module _ (held kept : ℕ → List ℕ) (same : (p : ℕ) → held p ≡ kept p) where
-  join-same : (g h : ℕ → List ℕ) → ((c : ℕ) → g c ≡ h c) → (l : List ℕ) → join g l ≡ join h l
-  join-same g h e [] = refl
-  join-same g h e (c ∷ l) = rw (e c, join-same g h e l)
-
   under-same : (f p : ℕ) → under f held p ≡ under f kept p
   unfolding under
   under-same zero p = refl
@@ -94,7 +94,7 @@ module _ {ps : List ℕ} {has : ℕ → Bool} (rule : Ruled ps) (marks : Marks p
   view-room = listed-few marks (view-listed ps rule has marks)
 
   -- a parent is before its children
-  pub up-first : (k : ℕ) → 0 < k → k < length ps → Left (way ps (parent ps k)) (way ps k)
+  up-first : (k : ℕ) → 0 < k → k < length ps → Left (way ps (parent ps k)) (way ps k)
   up-first k s l = rw (way-step ps rule k s l) (left-stop (way ps (parent ps k)) k [])
 
 -- ── what is given of it ──

@@ -14,5 +14,6 @@ pub mod Unique
 pub mod Tested
 pub mod Given
 pub mod Moved
+pub mod Carried
 pub mod Views
 pub mod Told

@@ -83,8 +83,8 @@ module _ (t : Table) {l m : List ℕ} where
   walks-one : ((n : ℕ) → tableAt t ≡ got tt n → Walk (rows t) (live (flags t)) l) → ((n : ℕ) → tableAt t ≡ got tt n → Walk (rows t) (live (flags t)) m) → (n : ℕ) → tableAt t ≡ got tt n → l ≡ m
   walks-one p q n e = one-walk (rows t) (live (flags t)) l m (p n e) (q n e)
 
-  views-one : ((n : ℕ) → tableAt t ≡ got tt n → Folders (rows t) (live (flags t)) l) → ((n : ℕ) → tableAt t ≡ got tt n → Folders (rows t) (live (flags t)) m) → (n : ℕ) → tableAt t ≡ got tt n → l ≡ m
-  views-one p q n e = one-view (rows t) (live (flags t)) l m (p n e) (q n e)
+  views-one : {has : ℕ → Bool} → ((n : ℕ) → tableAt t ≡ got tt n → Folders (rows t) has l) → ((n : ℕ) → tableAt t ≡ got tt n → Folders (rows t) has m) → (n : ℕ) → tableAt t ≡ got tt n → l ≡ m
+  views-one {has} p q n e = one-view (rows t) has l m (p n e) (q n e)
 
 pub one-walked : (t : Table) (old new new′ : List ℕ) (x y : Written) → Walked t old (saysWritten x) new → Walked t old (saysWritten y) new′ → (x ≡ y) × (new ≡ new′)
 one-walked t old new new′ x y p q =

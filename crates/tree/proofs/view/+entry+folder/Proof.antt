@@ -1,5 +1,5 @@
 -- `tree::view::entry` and `tree::view::folder`: each calls the other on fewer objects. Assumes nothing.
-use Prim.Native.Nat.{ℕ, _<_}
+use Prim.Native.Nat.{ℕ, _+_, _≤_, _<_}
 use borrow.Fn.Kinds.{In}
 use borrow.Fn.PlainCycle.{Measures, is, falls, and}
 use Rattle.tree.proofs.view.entry.Reads as entry
@@ -10,10 +10,8 @@ use Rattle.tree.proofs.view.folder.Kinds as folder-kinds
 use Rattle.tree.proofs.view.+entry+folder.Lts-folder as folder-lts
 use Rattle.tree.proofs.view.+entry+folder.{statement}
 use Rattle.tree.proofs.view.+entry+folder.Tie.{close}
-use mathlib.Core.Path.{_≡_, sym, ap, _∙_}
-use Prim.Native.Nat.{_+_, _-_, _≤_}
+use mathlib.Core.Path.{ap, _∙_}
 use native.Mathlib.Omega.{arith}
-use borrow.Author.Needs.{needs}
 use denote.Ref.{now}
 use lib.ListN.{length, getD, length-set, length-append}
 use Rattle.layout.proofs.laws.Writing.{Owes, start, byte, part, end, long}
@@ -21,6 +19,7 @@ use Rattle.tree.specs.Links.{chain}
 use Rattle.tree.specs.Below.{join, full, inside}
 use Rattle.tree.proofs.Folding.{chain-step, full-step, left-hit, left-none, left-start}
 
+-- the measure of both is the count of objects left below: twice that of a place and all below it, and twice that of all below it, and one
 abbrev μ-entry : Measures 3 entry-kinds.ps ℕ
 μ-entry κs a = length (full (now (a .0)) (now (a .1 .0)) (a .1 .1 .0)) + length (full (now (a .0)) (now (a .1 .0)) (a .1 .1 .0))
 
