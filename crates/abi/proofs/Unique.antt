@@ -6,6 +6,7 @@ use mathlib.Core.List.{List, _∷_, _++_}
 use Prim.Native.Nat.{ℕ}
 use lib.ListN.{length, drop}
 use Rattle.layout.specs.Answer.{Answer, got, refused, means}
+use Rattle.layout.specs.Bytes.{Bytes}
 use Rattle.layout.specs.Written.{Said, leftOf, saysWritten}
 use Rattle.layout.specs.declared.Written.{Written}
 use Rattle.layout.specs.declared.Written.the-variants as written
@@ -21,6 +22,8 @@ use Rattle.tree.specs.declared.Checked.the-variants as checked
 use Rattle.tree.proofs.laws.Unique.{one-walked, one-paths, one-viewed, one-view-paths, one-linked, one-walk-linked, one-paths-linked}
 use Rattle.shots.specs.Added.{Adds}
 use Rattle.shots.specs.Collected.{Collected}
+use Rattle.shots.specs.Linked.{DeletedLinked, CollectedLinked, AddsLinked}
+use Rattle.shots.proofs.laws.Kept.{one-deleted-linked, one-collected-linked, one-added-linked}
 use Rattle.shots.proofs.laws.Unique.{one-collected, one-added}
 use Rattle.abi.specs.Answered.{word, Tells, Gives}
 use Rattle.abi.specs.Copied.{unlessRefused, CopiesInto}
@@ -109,6 +112,26 @@ pub one-added-given : {asked : Answer (Unit {0})} {t : Table} {old name hs hs′
     → Tells (λ a. Adds asked t old parent handle name a hs ps es ms ns new) r → Tells (λ a. Adds asked t old parent handle name a hs′ ps′ es′ ms′ ns′ new′) s
     → (r ≡ s) × ((hs ≡ hs′) × (ps ≡ ps′) × (es ≡ es′) × (ms ≡ ms′) × (ns ≡ ns′)) × (new ≡ new′)
 one-added-given x y = let all = one-added (x .allows) (y .allows) in (same-word x y (all .0), all .1, all .2)
+
+pub one-deleted-linked-given : (t : Table) (fs ns : List ℕ) (place : ℕ) {ms ms′ f g m o : List ℕ} {r s : ℕ}
+    → Tells (λ a. DeletedLinked t fs ns place a ms f m) r → Tells (λ a. DeletedLinked t fs ns place a ms′ g o) s → (r ≡ s) × (ms ≡ ms′) × (f ≡ g) × (m ≡ o)
+one-deleted-linked-given t fs ns place x y =
+    let all = one-deleted-linked t fs ns place (x .allows) (y .allows) in
+    (same-word x y (all .0), all .1, all .2, all .3)
+
+module _ (t : Table) (fs ns old : List ℕ) {hs hs′ ps ps′ es es′ ms ms′ bs bs′ f g m o new new′ : List ℕ} {r s : ℕ} where
+  pub one-collected-linked-given : Tells (λ a. CollectedLinked t fs ns old a hs ps es ms bs f m new) r → Tells (λ a. CollectedLinked t fs ns old a hs′ ps′ es′ ms′ bs′ g o new′) s
+      → (r ≡ s) × ((hs ≡ hs′) × (ps ≡ ps′) × (es ≡ es′) × (ms ≡ ms′) × (bs ≡ bs′)) × (f ≡ g) × (m ≡ o) × (new ≡ new′)
+  one-collected-linked-given x y =
+      let all = one-collected-linked t fs ns old (x .allows) (y .allows) in
+      (same-word x y (all .0), all .1, all .2, all .3, all .4)
+
+  pub one-added-linked-given : (parent handle : ℕ) (name : List ℕ) → Bytes (t .names) → Bytes name
+      → Tells (λ a. AddsLinked t fs ns old parent handle name a hs ps es ms bs f m new) r → Tells (λ a. AddsLinked t fs ns old parent handle name a hs′ ps′ es′ ms′ bs′ g o new′) s
+      → (r ≡ s) × ((hs ≡ hs′) × (ps ≡ ps′) × (es ≡ es′) × (ms ≡ ms′) × (bs ≡ bs′)) × (f ≡ g) × (m ≡ o) × (new ≡ new′)
+  one-added-linked-given parent handle name h i x y =
+      let all = one-added-linked t fs ns old parent handle name h i (x .allows) (y .allows) in
+      (same-word x y (all .0), all .1, all .2, all .3, all .4)
 
 pub one-sent : (n end code count : ℕ) (said : ℕ → Said) (old new new′ : List ℕ) (n′ n″ end′ end″ r s : ℕ)
     → Tells (Parts n end code count said old n′ end′ new) r → Tells (Parts n end code count said old n″ end″ new′) s → (r ≡ s) × (n′ ≡ n″) × (end′ ≡ end″) × (new ≡ new′)

@@ -1,6 +1,6 @@
 // An object table that keeps its links: they are made; the walk and all paths go along them; an object deleted, the live ones collected, one added.
 ghost use mathlib.Core.Path.{_≡_};
-ghost use Rattle.shots.specs.Linked.{DeletedLinked, CollectedLinked};
+ghost use Rattle.shots.specs.Linked.{DeletedLinked, CollectedLinked, AddsLinked};
 ghost use Rattle.tree.specs.Links.{Keeping, Linked};
 ghost use Rattle.tree.specs.Path.{Walked, AllPaths};
 ghost use Rattle.tree.specs.Table.{table};
@@ -145,5 +145,39 @@ pub extern "C" fn ptp_linked_collect(
         first,
         next,
         news,
+    )))
+}
+
+// An object behind the last, and the new place of each of the others. The answer is its place; the count is then one more.
+#[no_mangle]
+pub extern "C" fn ptp_linked_add(
+    handles: &mut [u32],
+    parents: &mut [u16],
+    ends: &mut [u32],
+    marks: &mut [u8],
+    count: usize,
+    names: &mut [u8],
+    first: &mut [u16],
+    next: &mut [u16],
+    news: &mut [u16],
+    parent: usize,
+    handle: u32,
+    name: &[u8],
+) -> u64
+    ensures { λ r. ⌜ Tells (λ a. AddsLinked (table (now (handles .entry)) (now (parents .entry)) (now (ends .entry)) (now (marks .entry)) count (now (names .entry))) (now (first .entry)) (now (next .entry)) (now (news .entry)) parent handle (now (name .entry)) a (now (handles .exit)) (now (parents .exit)) (now (ends .exit)) (now (marks .exit)) (now (names .exit)) (now (first .exit)) (now (next .exit)) (now (news .exit))) r ⌝ }
+{
+    answer::told(object_table::placed(shots::add_linked(
+        handles,
+        parents,
+        ends,
+        marks,
+        count,
+        names,
+        first,
+        next,
+        news,
+        parent,
+        handle,
+        name,
     )))
 }

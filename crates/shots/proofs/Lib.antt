@@ -14,5 +14,4 @@ pub mod Relinks
 pub mod Told
 pub mod Adding
 pub mod Appending
-pub mod Kept
 pub mod Views
