@@ -35,8 +35,8 @@ use Rattle.tree.proofs.laws.Ways.{one-view}
 -- ── places ──
 
 -- what was given of a table as places: it was accepted, and they stand at the front
-read : (t : Table) (l : List ℕ) {old new : List ℕ} {n : ℕ} → Wrote (saidIf (tableAt t) (says l)) old (got tt n) new → (m : ℕ) × (tableAt t ≡ got tt m) × (take n new ≡ l) × (n ≡ length l)
-read t l {old} {new} {n} w = of (tableAt t) refl (g .due)
+read-places : (t : Table) (l : List ℕ) {old new : List ℕ} {n : ℕ} → Wrote (saidIf (tableAt t) (says l)) old (got tt n) new → (m : ℕ) × (tableAt t ≡ got tt m) × (take n new ≡ l) × (n ≡ length l)
+read-places t l {old} {new} {n} w = of (tableAt t) refl (g .due)
   where
     g : Whole (saidIf (tableAt t) (says l)) old n new
     g = whole w
@@ -59,7 +59,7 @@ parent-first t e v = view-listing (accepted t (sym e)) v .above
 module _ (t : Table) {old new : List ℕ} {n : ℕ} (p : Viewed t old (got tt n) new) where
   answered : (m : ℕ) × (tableAt t ≡ got tt m) × Folders (rows t) (live (flags t)) (take n new) × (n ≡ length (take n new))
   answered =
-      let r = read t (p .order) (p .wrote) in
+      let r = read-places t (p .order) (p .wrote) in
       (r .0, r .1, rw (r .2) (p .viewed (r .0) (r .1)), r .3 ∙ ap length (sym (r .2)))
 
   -- each live place once, and nothing else
@@ -69,7 +69,7 @@ module _ (t : Table) {old new : List ℕ} {n : ℕ} (p : Viewed t old (got tt n)
   -- the walk's places, each as often, and so many
   pub same-places : {old′ new′ : List ℕ} {m : ℕ} → Walked t old′ (got tt m) new′ → ((k : ℕ) → times k (take n new) ≡ times k (take m new′)) × (n ≡ m)
   same-places {new′ = new′} {m} q =
-      let r = read t (q .order) (q .wrote) in
+      let r = read-places t (q .order) (q .wrote) in
       let w : Walk (rows t) (live (flags t)) (take m new′) = rw (r .2) (q .walked (r .0) (r .1)) in
       let each : (k : ℕ) → times k (take n new) ≡ times k (take m new′) = λ k. once k ∙ sym (w .once k) in
       (each, answered .3 ∙ same-size (take n new) (take m new′) each ∙ ap length (r .2) ∙ sym (r .3))
@@ -162,17 +162,17 @@ module _ (t : Table) (l out ends : List ℕ) {o e : List ℕ} {n : ℕ} (w : Wro
   abbrev stopped : List ℕ
   stopped = endsFrom 0 (rows t) (stops t) (t .names) l
 
-  abbrev Read : Type 0
-  Read = (m : ℕ) × (tableAt t ≡ got tt m) × (parts 0 (take (length l) e) o ≡ map (pathOf (rows t) (stops t) (t .names)) l)
+  abbrev PathsRead : Type 0
+  PathsRead = (m : ℕ) × (tableAt t ≡ got tt m) × (parts 0 (take (length l) e) o ≡ map (pathOf (rows t) (stops t) (t .names)) l)
 
-  read-paths : Read
+  read-paths : PathsRead
   unfolding pathsSaid endsSaid
   read-paths = of (tableAt t) refl (g .due)
     where
       g : Whole (pathsSaid t l (length ends)) out n o
       g = whole w
 
-      go : (m : ℕ) → tableAt t ≡ got tt m → (b : Bool) → leb (length l) (length ends) ≡ b → pick b (says bytes) (no (bare ROOM)) ≡ says (g .bs) → Read
+      go : (m : ℕ) → tableAt t ≡ got tt m → (b : Bool) → leb (length l) (length ends) ≡ b → pick b (says bytes) (no (bare ROOM)) ≡ says (g .bs) → PathsRead
       go m q false h d = zero-one (cc)
       go m q true h d =
           let same : g .bs ≡ bytes = cc in
@@ -188,7 +188,7 @@ module _ (t : Table) (l out ends : List ℕ) {o e : List ℕ} {n : ℕ} (w : Wro
                 ∙ parts-joined (rows t) (stops t) (t .names) 0 l (drop (length bytes) out),
           )
 
-      of : (a : Answer (Unit {0})) → tableAt t ≡ a → saidIf a (pick (leb (length l) (length ends)) (says bytes) (no (bare ROOM))) ≡ says (g .bs) → Read
+      of : (a : Answer (Unit {0})) → tableAt t ≡ a → saidIf a (pick (leb (length l) (length ends)) (says bytes) (no (bare ROOM))) ≡ says (g .bs) → PathsRead
       of (refused why) q d = zero-one (cc)
       of (got u m) q d = go m q (leb (length l) (length ends)) refl d
 
