@@ -33,6 +33,10 @@ def kept(kind, rest, length=None):
     return entry_bytes(kind, bytes.fromhex("060000000150" + rest), length).hex()
 
 
+# 1,024 objects without a name, each below the one before.
+CHAIN = table(",".join(map(str, [0, *range(1023)])), ",".join(map(str, range(1, 1025))), "00" * 1024)
+FLAT = table(repeated("0", 1024), ",".join(map(str, range(1, 1025))), "00" * 1024)
+ALL_PLACES = ",".join(map(str, range(1024)))
 LONE = "55296"
 # An entry for any camera with the value 7, one for the serial A with the value 9, and rows of so many entries.
 ANY_7, ONE_9 = kept(16, "020007"), kept(17, "0241000000020009")
@@ -551,6 +555,18 @@ ORDERS = {
         ("recording effd00000300", "no 14"),
         ("recording 1200000001000c0000000500012007000000", "no 4"),
         ("recording 1300000001000c000000030001200700000000", "no 3"),
+    ],
+    "a chain and a folder of 1,024 objects": [
+        (f"walk {CHAIN}", f"ok {ALL_PLACES}"),
+        (f"folders {CHAIN}", f"ok {ALL_PLACES}"),
+        (f"folders {FLAT}", f"ok {ALL_PLACES}"),
+        (f"folder-paths {CHAIN} 1", "ok 0 a5 0*1024"),
+        (f"link {CHAIN}", f"ok {ALL_PLACES[2:]},0 0*1024"),
+        (f"link {FLAT}", f"ok 1,0*1023 0,{ALL_PLACES[4:]},0"),
+        (f"linked-walk {CHAIN} {ALL_PLACES[2:]},0 0*1024", f"ok {ALL_PLACES}"),
+        (f"linked-delete {CHAIN} {ALL_PLACES[2:]},0 0*1024 1", "ok 1,0*1023 0*1024 0*1024"),
+        (f"linked-delete {FLAT} 1,0*1023 0,{ALL_PLACES[4:]},0 1023", f"ok 1*1023,0 1,0*1023 0,{ALL_PLACES[4:-5]},0*2"),
+        (f"linked-add {CHAIN} {ALL_PLACES[2:]},0 0*1024 0 7 00", "no 19"),
     ],
     "65,000 and 65,001": [
         ("record eefd00000300", "no 1 6"),
