@@ -14,4 +14,5 @@ pub mod Relinks
 pub mod Told
 pub mod Adding
 pub mod Appending
+pub mod Kept
 pub mod Views

@@ -1,4 +1,3 @@
 -- The laws of this crate that a crate above it may cite, beside its specs: its interface to proofs.
 -- Assumes nothing.
 pub mod Unique
-pub mod Kept
