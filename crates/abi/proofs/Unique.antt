@@ -23,8 +23,7 @@ use Rattle.tree.proofs.laws.Unique.{one-walked, one-paths, one-viewed, one-view
 use Rattle.shots.specs.Added.{Adds}
 use Rattle.shots.specs.Collected.{Collected}
 use Rattle.shots.specs.Linked.{DeletedLinked, CollectedLinked, AddsLinked}
-use Rattle.shots.proofs.laws.Kept.{one-deleted-linked, one-collected-linked, one-added-linked}
-use Rattle.shots.proofs.laws.Unique.{one-collected, one-added}
+use Rattle.shots.proofs.laws.Unique.{one-collected, one-added, one-deleted-linked, one-collected-linked, one-added-linked}
 use Rattle.abi.specs.Answered.{word, Tells, Gives}
 use Rattle.abi.specs.Copied.{unlessRefused, CopiesInto}
 use Rattle.listing.specs.Window.{Windowed}

@@ -6,7 +6,7 @@ use mathlib.Core.List.{List}
 use Prim.Native.Nat.{ℕ, suc, _≤_, _<_}
 use native.Mathlib.Omega.{arith}
 use borrow.Author.Tests.{lt-ltb}
-use lib.ListN.{length, getD, take, set, length-set}
+use lib.ListN.{getD, take, set, length-set}
 use lib.Dec.{ltb}
 use lib.Seq.{getD-set-same, getD-set-other, getD-take, length-take-le}
 use Rattle.layout.specs.Answer.{got}
@@ -23,7 +23,7 @@ use Rattle.shots.specs.Added.{with, base, newPlaces}
 use Rattle.shots.specs.Facts.{Appended, only, last, LinksOf, Room, Based}
 use Rattle.shots.proofs.Adding.{base-carries}
 use Rattle.shots.proofs.Additions.{parent-new}
-use Rattle.shots.proofs.Falls.{named, lowest-of}
+use Rattle.shots.proofs.Falls.{named, lowest-of, next-from}
 use Rattle.shots.proofs.Fits.{fit-by}
 
 -- ── along the chain ──
@@ -32,17 +32,14 @@ module _ {ps : List ℕ} {has : ℕ → Bool} {fs ns : List ℕ} (links : Links 
   pub child-first : (getD fs p 0 ≡ 0 → ⊥) → Child ps has p 1 (getD fs p 0)
   child-first f = named (links .first p up) (omega arith)
 
-  next-of : {k : ℕ} → Child ps has p 1 k → Lowest ps has p (suc k) (getD ns k 0)
-  next-of {k} c = rw (c .up) at (links .next k (c .least) (c .living))
-
   pub child-next : {k : ℕ} → Child ps has p 1 k → (getD ns k 0 ≡ 0 → ⊥) → Child ps has p 1 (getD ns k 0) × (k < getD ns k 0)
-  child-next c f = let d = named (next-of c) (omega arith) in let l = d .least in (record { least = omega arith; living = d .living; up = d .up }, l)
+  child-next c f = let d = named (next-from links c) (omega arith) in let l = d .least in (record { least = omega arith; living = d .living; up = d .up }, l)
 
   -- only the last has none behind it
   last-one : {j k : ℕ} → Child ps has p 1 j → Child ps has p 1 k → getD ns j 0 ≡ 0 → k ≤ j
   last-one {j} {k} c d e =
       by-less j k _ refl
-      (λ l. absurd (let b = lowest-of (next-of c) (omega arith) (record { least = l; living = d .living; up = d .up }) .0 in omega arith))
+      (λ l. absurd (let b = lowest-of (next-from links c) (omega arith) (record { least = l; living = d .living; up = d .up }) .0 in omega arith))
       (λ l. l)
 
 -- ── one place more ──
@@ -140,7 +137,7 @@ module _ {ps : List ℕ} {has : ℕ → Bool} {qs : List ℕ} {now : ℕ → Boo
           (λ q. lowest-still (rw q (lowest-of (links .first p up) (omega arith) c .0)) (links .first x (was w e)))
           (λ q. lowest-apart q (links .first x (was w e))));
       next = λ j o e. equal j k
-          (λ q. rw (q, getD-set-same ns k place 0 (let n = links .nexts in let b = in-it in omega arith), longer .same k in-it, c .up) (lowest-new z (omega arith) in-it (next-of links up c)))
+          (λ q. rw (q, getD-set-same ns k place 0 (let n = links .nexts in let b = in-it in omega arith), longer .same k in-it, c .up) (lowest-new z (omega arith) in-it (next-from links c)))
           (λ q. rw (getD-set-other ns k j place 0 q) (equal j place
           (λ w. rw (w, links .ended place not-yet .1) last-there)
           (λ w. equal (parent qs j) p
@@ -166,7 +163,7 @@ module _ {ps : List ℕ} {has : ℕ → Bool} {qs : List ℕ} {now : ℕ → Boo
 
 -- ── of a table ──
 
-pub with-links : (u : Table) (r : Rule u) (p handle : ℕ) (name : List ℕ) → u .count < 1024 → live (flags u) p ≡ true → {fs ns fs′ ns′ : List ℕ} → Links (rows u) (live (flags u)) fs ns
+with-links : (u : Table) (r : Rule u) (p handle : ℕ) (name : List ℕ) → u .count < 1024 → live (flags u) p ≡ true → {fs ns fs′ ns′ : List ℕ} → Links (rows u) (live (flags u)) fs ns
     → Appended (rows u) (live (flags u)) p (u .count) fs ns fs′ ns′ → LinksOf (with u p handle name) fs′ ns′
 with-links u r p handle name free up links a = record { links = appended-links longer (s .marks) up links free a }
   where

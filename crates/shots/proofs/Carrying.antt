@@ -81,7 +81,7 @@ module _ {ps : List ℕ} {has : ℕ → Bool} {qs : List ℕ} {now : ℕ → Boo
     next-at : (k : ℕ) → 0 < k → has k ≡ true → Lowest qs now (parent qs (new k)) (suc (new k)) (getD ns′ (new k) 0)
     next-at k o e = rw (next k e, moves .parents k o e) (lowest-moved (marks .up k o e) e (links .next k o e))
 
-    pub links-moved : Links qs now fs′ ns′
+    links-moved : Links qs now fs′ ns′
     links-moved = record {
       firsts = long;
       nexts = long′;

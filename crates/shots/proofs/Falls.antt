@@ -119,6 +119,10 @@ pub lowest-of : {ps : List ℕ} {has : ℕ → Bool} {p m k x : ℕ} → Lowest 
 lowest-of {x = x} (lowest c f) h d = let l = c .least in (omega arith, f x d)
 lowest-of {x = x} (nobody f) h d = absurd (f x d)
 
+-- the link of a child of p is to the next
+pub next-from : {ps : List ℕ} {has : ℕ → Bool} {fs ns : List ℕ} → Links ps has fs ns → {p k : ℕ} → Child ps has p 1 k → Lowest ps has p (suc k) (getD ns k 0)
+next-from links {k = k} c = rw (c .up) at (links .next k (c .least) (c .living))
+
 -- a live place before the place with the same parent
 pub record Sibling (ps : List ℕ) (has : ℕ → Bool) (place k : ℕ) : Type 0 where
   pub some : 0 < k
@@ -151,11 +155,11 @@ module _ {ps : List ℕ} {has : ℕ → Bool} {fs ns : List ℕ} (marks : Marks 
       record { some = omega arith; living = m; up = sym (c .up); before = c .least }))
       (λ m. absurd (let z = links .ended x m .1 in omega arith))
 
-  next-of : {k : ℕ} → Sibling ps has place k → Lowest ps has (parent ps place) (suc k) (getD ns k 0)
-  next-of {k} b = rw (b .up) at (links .next k (b .some) (b .living))
-
   sibling-child : {k m : ℕ} → Sibling ps has place k → m ≤ k → Child ps has (parent ps place) m k
   sibling-child b h = record { least = h; living = b .living; up = b .up }
+
+  next-of : {k : ℕ} → Sibling ps has place k → Lowest ps has (parent ps place) (suc k) (getD ns k 0)
+  next-of b = next-from links (sibling-child b (b .some))
 
   -- so one at most
   next-one : {x y : ℕ} → getD ns x 0 ≡ place → getD ns y 0 ≡ place → y ≤ x

@@ -55,6 +55,6 @@ added-told {t} {old} {name} {parent} c =
     telling-pick (live (flags t) parent) (λ _. telling-after (name-telling name (everywhere name) tt) λ _ _ _. room-telling t (length name)) λ _. plainly PLACE (omega arith)
     ))
 
--- nor has the 11 of other links one
-pub kept-told : {t : Table} {fs ns : List ℕ} {a : Answer (Unit {0})} {P U : Type 0} → Keeping t fs ns a P U → (P → PlacedExactly a) → PlacedExactly a
-kept-told {t} {fs} {ns} k f = by-mark (linksOk t fs ns) (λ e. f (k .own e)) (λ e. telling-exactly (telling-same (k .other e .0) (plainly TABLE (omega arith))))
+-- of a table that keeps its links: nor has the 11 of other links a place
+pub linked-told : {t : Table} {fs ns : List ℕ} {a : Answer (Unit {0})} {P U : Type 0} → Keeping t fs ns a P U → (P → PlacedExactly a) → PlacedExactly a
+linked-told {t} {fs} {ns} k f = by-mark (linksOk t fs ns) (λ e. f (k .own e)) (λ e. telling-exactly (telling-same (k .other e .0) (plainly TABLE (omega arith))))

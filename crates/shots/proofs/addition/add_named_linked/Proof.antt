@@ -1,5 +1,5 @@
 -- `shots::addition::add_named_linked`: the object in the table that there is room in, and its place at the end of a chain. Assumes nothing.
-use mathlib.Core.Path.{_≡_, sym, _∙_}
+use mathlib.Core.Path.{sym}
 use Prim.Native.Nat.{_≤_, _<_}
 use native.Mathlib.Omega.{arith}
 use borrow.Author.Needs.{needs}

@@ -3,7 +3,8 @@ use mathlib.Core.Bool.{true}
 use mathlib.Core.Path.{_≡_}
 use Prim.Native.Nat.{ℕ, _-_, _<_}
 use native.Mathlib.Omega.{arith}
-use lib.ListN.{length, getD, length-set}
+use borrow.Author.Needs.{needs}
+use lib.ListN.{length, getD}
 use Rattle.tree.specs.Links.{Child}
 use Rattle.tree.specs.Table.{live}
 use Rattle.shots.specs.Facts.{only, last}
@@ -49,7 +50,7 @@ slice-write-first : tie.Need-slice-write-first Inv-loop μ-loop
 slice-write-first c = let b = c .before .before in let h = small b (b .args .parent) (b .pre .1 .1 .1 .0) in omega (arith, b .pre .1 .1 .0 .firsts)
 
 same-length : tie.Need-same-length Inv-loop μ-loop
-same-length c = let a = c .before .before .args in length-set (a .first .now) (a .parent) (a .place)
+same-length c = search needs
 
 returns : tie.Need-returns Inv-loop μ-loop
 returns c = only (c .if1 .taken)
@@ -88,7 +89,7 @@ slice-write-next : tie.Need-slice-write-next Inv-loop μ-loop
 slice-write-next c = let b = c .before .before .before .before .before in let l = c .before .before .loop in let h = small b (l .k) (l .inv .living) in omega (arith, b .pre .1 .1 .0 .nexts)
 
 same-length-2 : tie.Need-same-length-2 Inv-loop μ-loop
-same-length-2 c = let a = c .before .before .before .before .before .args in length-set (a .next .now) (c .before .before .loop .k) (a .place)
+same-length-2 c = search needs
 
 returns-2 : tie.Need-returns-2 Inv-loop μ-loop
 returns-2 c = last (c .before .before .loop .inv) (c .if2 .left)

@@ -4,11 +4,12 @@ use mathlib.Core.Path.{_≡_, sym, _∙_}
 use native.Mathlib.Omega.{arith}
 use borrow.Author.Needs.{needs}
 use borrow.Author.Tests.{ltb-true, not-true, not-false}
+use lib.Dec.{ltb}
 use Rattle.layout.proofs.laws.Reading.{heard}
 use Rattle.layout.specs.Answer.{got}
 use Rattle.tree.proofs.laws.Sound.{Sound, accepted, rows-long, marks-long}
 use Rattle.tree.specs.Says.{saysChecked}
-use Rattle.tree.specs.Table.{Table, table, tableAt}
+use Rattle.tree.specs.Table.{Table, table, flags, live, tableAt}
 use Rattle.shots.proofs.Replies.{delete-refused, delete-no, delete-done}
 use Rattle.shots.proofs.deletion.delete.Statement.{statement}
 use Rattle.shots.proofs.deletion.delete.Tie as tie
@@ -57,7 +58,8 @@ fall-requires c κs =
     let e = c .before .before .before .before .before in
     let s = whole e in
     let n = rows-long s in
-    let m = and-eq-true-iff _ _ .0 (sym (c .before .before .before .may-end .ensures) ∙ not-false _ (c .before .before .if1 .left)) in
+    let a = e .before .before .before .before .before .before .before .before .before .args in
+    let m = and-eq-true-iff (ltb 0 (a .place)) (live (flags (asked e)) (a .place)) .0 (sym (c .before .before .before .may-end .ensures) ∙ not-false _ (c .before .before .if1 .left)) in
     (s .kept .ruling, (omega (arith, s .few, s .flagged), (rw (← n) (s .marks), (ltb-true _ _ (m .0), s .marks .place _ (m .1)))))
 
 enum-known-f : tie.Need-enum-known-f

@@ -1,8 +1,6 @@
 -- `shots::deletion::end_all`: at the first i of these places stands 0, in all three lists. Assumes nothing.
-use mathlib.Core.Path.{_∙_}
 use Prim.Native.Nat.{_-_, _<_}
 use native.Mathlib.Omega.{arith}
-use borrow.Author.Needs.{needs}
 use lib.ListN.{length, getD, take}
 use lib.Seq.{take-all}
 use Rattle.shots.specs.Facts.{Cleared}

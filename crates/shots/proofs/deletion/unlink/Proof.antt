@@ -2,7 +2,8 @@
 use mathlib.Core.Path.{_≡_}
 use Prim.Native.Nat.{_-_, _<_}
 use native.Mathlib.Omega.{arith}
-use lib.ListN.{length, getD, length-set}
+use borrow.Author.Needs.{needs}
+use lib.ListN.{length, getD}
 use Rattle.tree.specs.Table.{live, parent}
 use Rattle.shots.proofs.Falls.{Sibling, sibling-first, sibling-next, mend-first, mend-next}
 use Rattle.shots.proofs.deletion.unlink.Statement.{statement}
@@ -66,7 +67,7 @@ slice-write-first : tie.Need-slice-write-first Inv-loop μ-loop
 slice-write-first c = let h = known (c .before .before .before .before) in omega (arith, h .1, h .2, h .3)
 
 same-length : tie.Need-same-length Inv-loop μ-loop
-same-length c = let a = c .before .before .before .before .args in length-set (a .first .now) (getD (a .parents .now) (a .place) 0) (getD (a .next .now) (a .place) 0)
+same-length c = search needs
 
 returns : tie.Need-returns Inv-loop μ-loop
 returns c =
@@ -112,7 +113,7 @@ slice-write-next : tie.Need-slice-write-next Inv-loop μ-loop
 slice-write-next c = let h = known (c .before .before .before .before .before .before .before) in omega (arith, h .2, h .4, c .before .before .loop .inv .0 .before)
 
 same-length-2 : tie.Need-same-length-2 Inv-loop μ-loop
-same-length-2 c = let a = c .before .before .before .before .before .before .before .args in length-set (a .next .now) (c .before .before .loop .k) (getD (a .next .now) (a .place) 0)
+same-length-2 c = search needs
 
 returns-2 : tie.Need-returns-2 Inv-loop μ-loop
 returns-2 c =
