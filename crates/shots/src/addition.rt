@@ -247,7 +247,7 @@ pub fn add(
     }
 }
 
-// The same table with its links.
+// What `make_room` does, of a table with its links.
 fn make_room_linked(
     handles: &mut [u32],
     parents: &mut [u16],
@@ -309,7 +309,7 @@ fn append(
     next[k] = place as u16;
 }
 
-// The same with the links: the object's place goes to the end of its parent's chain.
+// What `add_named` does, of a table with its links: the object's place goes to the end of its parent's chain.
 fn add_named_linked(
     handles: &mut [u32],
     parents: &mut [u16],
@@ -351,7 +351,7 @@ fn add_named_linked(
     n
 }
 
-// The same of a table that keeps its links.
+// What `add` does, of a table that keeps its links; 11 also for other links than its own.
 pub fn add_linked(
     handles: &mut [u32],
     parents: &mut [u16],

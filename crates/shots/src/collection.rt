@@ -219,7 +219,7 @@ fn carry(marks: &[u8], news: &[u16], links: &mut [u16])
     clear_from(links, n);
 }
 
-// The same of a table with its links.
+// What `gather` does, of a table with its links.
 pub(crate) fn gather_linked(
     handles: &mut [u32],
     parents: &mut [u16],
@@ -272,7 +272,7 @@ pub fn collect(
     }
 }
 
-// The same of a table that keeps its links.
+// What `collect` does, of a table that keeps its links; 11 also for other links than its own.
 pub fn collect_linked(
     handles: &mut [u32],
     parents: &mut [u16],

@@ -163,7 +163,7 @@ fn fall_linked(
     count
 }
 
-// The same of a table that keeps its links.
+// What `delete` does, of a table that keeps its links; 11 also for other links than its own.
 pub fn delete_linked(
     handles: &[u32],
     parents: &[u16],
