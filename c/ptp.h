@@ -438,7 +438,8 @@ int64_t ptp_paths(const uint32_t *handles, size_t handles_len, const uint16_t *p
                   size_t out_len, uint32_t *out_ends, size_t out_ends_len);
 
 /* The places of the live objects as a folder view: each folder, then all below it, before the next one at its level; siblings in rising places.
- * They are the walk's, in another order. Answers how many. Refusals: the table's; ROOM. A chain of 1,024 objects takes STACK of stack. */
+ * They are the walk's, in another order. Answers how many. Refusals: the table's; ROOM. A chain of 1,024 objects takes
+ * 126,000 bytes of stack. */
 int64_t ptp_folders(const uint32_t *handles, size_t handles_len, const uint16_t *parents, size_t parents_len, const uint32_t *ends,
                     size_t ends_len, const uint8_t *marks, size_t marks_len, size_t count, const uint8_t *names, size_t names_len,
                     uint16_t *places, size_t places_len);

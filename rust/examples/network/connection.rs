@@ -70,6 +70,14 @@ impl Connection {
         Ok(packet)
     }
 
+    /// Waits for what comes next: whether the other side has closed the connection.
+    pub fn is_ended(&mut self) -> Result<bool, Fault> {
+        match self.0.read(&mut [0]) {
+            Err(why) if why.kind() != ErrorKind::ConnectionReset => Err(why.into()),
+            came => Ok(came.unwrap_or(0) == 0),
+        }
+    }
+
     // What stands behind the head of the next packet, which must be of this kind.
     fn expect(&mut self, kind: u32) -> Result<Vec<u8>, Fault> {
         let packet = self.receive()?;
