@@ -9,6 +9,7 @@ import subprocess
 import time
 import unittest
 
+from door.tests.place import by_default
 from door.tests.sandbox import ROOT, Sandbox, device, read_some, result
 
 CAT = "#!/bin/sh\nexec cat\n"
@@ -352,7 +353,8 @@ class Following(Door):
         box = self.built()
         grows = box.folder / "grows"
         grows.write_bytes(b"first ")
-        started = subprocess.Popen([box.home / "ptp", "list", "--follow", grows], stdout=subprocess.PIPE, start_new_session=True)
+        started = subprocess.Popen([box.home / "ptp", "list", "--follow", grows], stdout=subprocess.PIPE, stderr=subprocess.DEVNULL,
+                                   start_new_session=True, preexec_fn=by_default)
         self.addCleanup(started.stdout.close)
         self.assertEqual(read_some(started.stdout), b"first ")
         with grows.open("ab") as more:
