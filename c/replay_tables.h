@@ -70,8 +70,11 @@ static void read_links(char *const *word, struct asked *t)
     memset(next_sibling, 0xA5, sizeof next_sibling);
     t->first_child = first_child;
     t->next_sibling = next_sibling;
-    t->first_len = word ? read_list(word[7], first_child, sizeof *first_child) : PTP_PLACES;
-    t->next_len = word ? read_list(word[8], next_sibling, sizeof *next_sibling) : PTP_PLACES;
+    t->first_len = t->next_len = PTP_PLACES;
+    if (word) {
+        t->first_len = read_list(word[7], first_child, sizeof *first_child);
+        t->next_len = read_list(word[8], next_sibling, sizeof *next_sibling);
+    }
 }
 
 static void print_links(const struct asked *t)
