@@ -115,6 +115,32 @@ static int64_t show_paths(const struct ptp_objects *o)
     return answer;
 }
 
+/* What stands behind a path's last slash. */
+static void print_name(const uint8_t *text, size_t start, size_t end)
+{
+    for (size_t at = start; at < end; at++)
+        if (text[at] == '/')
+            start = at + 1;
+    fwrite(text + start, 1, end - start, stdout);
+    printf("\n");
+}
+
+/* How deep a place is shown is the number of its parents; its name is the end of its path. */
+static int64_t show_folders(const struct ptp_objects *o)
+{
+    uint16_t places[PTP_PLACES];
+    uint32_t ends[PTP_PLACES];
+    uint8_t text[TEXT_ROOM];
+    int64_t live = ptp_objects_folders(o, places, PTP_PLACES), answer = ptp_objects_folder_paths(o, text, TEXT_ROOM, ends, PTP_PLACES);
+    size_t start = 0;
+    for (int64_t n = 0; answer >= 0 && n < live; start = ends[n++]) {
+        for (size_t place = places[n]; place > 0; place = o->parents[place])
+            printf("  ");
+        print_name(text, start, ends[n]);
+    }
+    return answer;
+}
+
 static int64_t add_first(struct ptp_objects *o)
 {
     int64_t answer = 0;
@@ -144,6 +170,8 @@ int main(void)
         answer = add(&o, LATER);
     if (answer >= 0)
         answer = show_paths(&o);
+    if (answer >= 0)
+        answer = show_folders(&o);
     if (answer < 0)
         fprintf(stderr, "refusal %d\n", (int)ptp_refusal_number(answer));
     return answer < 0 ? 1 : 0;

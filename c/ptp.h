@@ -1,6 +1,6 @@
-/* The byte layer of the picture transfer protocol: forty-nine proved functions, in C.
+/* The byte layer of the picture transfer protocol: sixty-one proved functions, in C.
  *
- * Each function answers how many numbers or bytes it gave, 0 or more; or a refusal, below 0: minus (its number, 1 to 19, and 256 times its
+ * Each function answers how many numbers or bytes it gave, 0 or more; or a refusal, below 0: minus (its number, 1 to 22, and 256 times its
  * place), which ptp_refusal_number and ptp_refusal_place take apart. The place is that of the first byte of the field that failed, for
  * END and TEXT: an array's count, a string's count byte, a list's failing value. It counts in the bytes that were lent, of an object's
  * name in that name. A place from 2^55 - 1 on is told as that one, which no array reaches. Every other refusal has the place 0.
@@ -20,9 +20,10 @@
  * A property's description has one of two layouts, which the caller names by `book`: true for PIMA 15740's, which has no IsEnable byte,
  * false for the one with that byte behind GetSet. There is no default, and nothing guesses: some bytes fit both.
  *
- * What is proved: every function that is declared here stands in the archive, and is proved. Plain C are the nine that are defined here.
- * Three are arithmetic on one number of an answer each: ptp_refusal_number, ptp_refusal_place and ptp_string_place. Six hand the parts of a
- * struct ptp_objects on: ptp_objects_walk, ptp_objects_path, ptp_objects_paths, ptp_objects_delete, ptp_objects_collect and ptp_objects_add.
+ * What is proved: every function that is declared here stands in the archive, and is proved. Plain C are the eleven that are defined here.
+ * Three are arithmetic on one number of an answer each: ptp_refusal_number, ptp_refusal_place and ptp_string_place. Eight hand the parts of a
+ * struct ptp_objects on: ptp_objects_walk, ptp_objects_path, ptp_objects_paths, ptp_objects_folders, ptp_objects_folder_paths,
+ * ptp_objects_delete, ptp_objects_collect and ptp_objects_add.
  */
 #ifndef PTP_H
 #define PTP_H
@@ -62,7 +63,10 @@ enum ptp_refusal {
     PTP_VALUE = 16,   /* the description's form does not allow the value */
     PTP_EDITION = 17, /* a setting's kind is not one of the edition */
     PTP_FULL = 18,    /* 256 settings with other keys are held */
-    PTP_TAKEN = 19    /* 1,024 live objects are held */
+    PTP_TAKEN = 19,   /* 1,024 live objects are held */
+    PTP_PACKET = 20,  /* a packet's kind is none of the five that a transaction has */
+    PTP_FIELDS = 21,  /* a packet's length is not of whole fields, or the data is not as long as announced */
+    PTP_TRANSACTION = 22 /* containers or packets are not one transaction */
 };
 
 /* Of an answer below 0: which refusal it is, one of the numbers above. Plain C. */
@@ -362,6 +366,43 @@ enum ptp_answer_number {
  * NOPHASE where no byte is left, END for six bytes, KIND, END for twelve, LENGTH, SIZE, TID; then ROOM. */
 int64_t ptp_find_answer(const uint8_t *s, size_t s_len, uint32_t number, uint64_t *out, size_t out_len);
 
+/* ---- one transaction on the network: the packets of PTP/IP ---- */
+
+/* What PTP_PACKET_KIND says. */
+enum ptp_packet_kind {
+    PTP_PACKET_REQUEST = 6,
+    PTP_PACKET_RESPONSE = 7,
+    PTP_PACKET_START_DATA = 9,
+    PTP_PACKET_DATA = 10,
+    PTP_PACKET_END_DATA = 12
+};
+
+/* 0 where the kind has none. */
+enum ptp_packet_number {
+    PTP_PACKET_NEXT, /* the place after it */
+    PTP_PACKET_KIND,
+    PTP_PACKET_PHASE,  /* of a request: 2 where data goes to the camera, 1 where none does */
+    PTP_PACKET_CODE,   /* of a request and a response */
+    PTP_PACKET_NUMBER, /* the transaction number, which each has */
+    PTP_PACKET_TOTAL,  /* of start data: how many bytes of data follow in all */
+    PTP_PACKET_START,  /* the parameters of a request and a response, the bytes of data and end data */
+    PTP_PACKET_LENGTH,
+    PTP_PACKET_NUMBERS /* 8 */
+};
+
+/* The packet at a place. Numbers: ptp_packet_number. Refusals: END for eight bytes, PACKET, FIELDS, END for the rest; ROOM. */
+int64_t ptp_read_packet(const uint8_t *s, size_t s_len, size_t at, uint64_t *out, size_t out_len);
+
+/* One transaction's containers, end to end, as packets: a Command, at most one Data with its code, a Response, all of one number, nothing
+ * behind. All data goes in the end data packet. `to_camera` says where the data goes. Answers how many bytes. What stands before the response
+ * packet does not depend on the Response: a controller puts any Response of its number behind what it sends, and sends the packets but the
+ * last. Refusals: of a container END, KIND, END, LENGTH, SIZE; TRANSACTION, TID, ROOM. */
+int64_t ptp_to_network(const uint8_t *s, size_t s_len, bool to_camera, uint8_t *out, size_t out_len);
+
+/* One transaction's packets, end to end, as containers. The data may be cut into any data packets. Answers how many bytes. Refusals: of a packet
+ * END, PACKET, FIELDS, END; TRANSACTION, FIELDS where the data is not as long as announced, TID, COUNT, ROOM. */
+int64_t ptp_from_network(const uint8_t *s, size_t s_len, uint8_t *out, size_t out_len);
+
 /* ---- an object table: handles, parents' places, live marks, and names end to end with the end of each ----
  *
  * Each of its four lists has PTP_PLACES places. The count, 1 to 1,024, says how many are used; the others are not looked at. Place 0 is the
@@ -395,6 +436,18 @@ int64_t ptp_path(const uint32_t *handles, size_t handles_len, const uint16_t *pa
 int64_t ptp_paths(const uint32_t *handles, size_t handles_len, const uint16_t *parents, size_t parents_len, const uint32_t *ends,
                   size_t ends_len, const uint8_t *marks, size_t marks_len, size_t count, const uint8_t *names, size_t names_len, uint8_t *out,
                   size_t out_len, uint32_t *out_ends, size_t out_ends_len);
+
+/* The places of the live objects as a folder view: each folder, then all below it, before the next one at its level; siblings in rising places.
+ * They are the walk's, in another order. Answers how many. Refusals: the table's; ROOM. A chain of 1,024 objects takes
+ * 126,000 bytes of stack. */
+int64_t ptp_folders(const uint32_t *handles, size_t handles_len, const uint16_t *parents, size_t parents_len, const uint32_t *ends,
+                    size_t ends_len, const uint8_t *marks, size_t marks_len, size_t count, const uint8_t *names, size_t names_len,
+                    uint16_t *places, size_t places_len);
+
+/* The paths of all live objects in that order, as ptp_paths gives them in walk order: the same paths, and as many bytes. */
+int64_t ptp_folder_paths(const uint32_t *handles, size_t handles_len, const uint16_t *parents, size_t parents_len, const uint32_t *ends,
+                         size_t ends_len, const uint8_t *marks, size_t marks_len, size_t count, const uint8_t *names, size_t names_len,
+                         uint8_t *out, size_t out_len, uint32_t *out_ends, size_t out_ends_len);
 
 /* Ends the object at a place and all that stand below it: their marks become 0, and nothing else changes. Answers the count, which stays.
  * Refusals: the table's; PLACE for the root, and where no live object stands. */
@@ -450,6 +503,19 @@ static inline int64_t ptp_objects_paths(const struct ptp_objects *o, uint8_t *ou
                      o->names_len, out, out_len, out_ends, out_ends_len);
 }
 
+static inline int64_t ptp_objects_folders(const struct ptp_objects *o, uint16_t *places, size_t places_len)
+{
+    return ptp_folders(o->handles, PTP_PLACES, o->parents, PTP_PLACES, o->ends, PTP_PLACES, o->marks, PTP_PLACES, o->count, o->names,
+                       o->names_len, places, places_len);
+}
+
+static inline int64_t ptp_objects_folder_paths(const struct ptp_objects *o, uint8_t *out, size_t out_len, uint32_t *out_ends,
+                                               size_t out_ends_len)
+{
+    return ptp_folder_paths(o->handles, PTP_PLACES, o->parents, PTP_PLACES, o->ends, PTP_PLACES, o->marks, PTP_PLACES, o->count, o->names,
+                            o->names_len, out, out_len, out_ends, out_ends_len);
+}
+
 static inline int64_t ptp_objects_delete(struct ptp_objects *o, size_t place)
 {
     return ptp_table_delete(o->handles, PTP_PLACES, o->parents, PTP_PLACES, o->ends, PTP_PLACES, o->marks, PTP_PLACES, o->count, o->names,
@@ -473,6 +539,46 @@ static inline int64_t ptp_objects_add(struct ptp_objects *o, size_t parent, uint
         o->count = (size_t)place + 1;
     return place;
 }
+
+/* ---- a table that keeps its links: of each place its first child, and the next below the same parent ----
+ *
+ * Two lists more, with PTP_PLACES places each. Of a live place `first` is its lowest live child, `next` the next higher live place with the same
+ * parent; 0 is none. Everything else in them is 0, so a table has one pair of links; those of a root alone are 0 throughout. Each function answers
+ * and refuses as the one without links does, and TABLE also where the links are not the table's own. It goes by the links, and leaves those of the
+ * table that it leaves. */
+
+/* Writes the links of a table. Answers the count. Refusals: the table's, TABLE also where a list of links has not 1,024 places. */
+int64_t ptp_table_link(const uint32_t *handles, size_t handles_len, const uint16_t *parents, size_t parents_len, const uint32_t *ends,
+                       size_t ends_len, const uint8_t *marks, size_t marks_len, size_t count, const uint8_t *names, size_t names_len,
+                       uint16_t *first, size_t first_len, uint16_t *next, size_t next_len);
+
+/* As ptp_walk. */
+int64_t ptp_linked_walk(const uint32_t *handles, size_t handles_len, const uint16_t *parents, size_t parents_len, const uint32_t *ends,
+                        size_t ends_len, const uint8_t *marks, size_t marks_len, size_t count, const uint8_t *names, size_t names_len,
+                        const uint16_t *first, size_t first_len, const uint16_t *next, size_t next_len,
+                        uint16_t *places, size_t places_len);
+
+/* As ptp_paths. */
+int64_t ptp_linked_paths(const uint32_t *handles, size_t handles_len, const uint16_t *parents, size_t parents_len, const uint32_t *ends,
+                         size_t ends_len, const uint8_t *marks, size_t marks_len, size_t count, const uint8_t *names, size_t names_len,
+                         const uint16_t *first, size_t first_len, const uint16_t *next, size_t next_len,
+                         uint8_t *out, size_t out_len, uint32_t *out_ends, size_t out_ends_len);
+
+/* As ptp_table_delete. */
+int64_t ptp_linked_delete(const uint32_t *handles, size_t handles_len, const uint16_t *parents, size_t parents_len, const uint32_t *ends,
+                          size_t ends_len, uint8_t *marks, size_t marks_len, size_t count, const uint8_t *names, size_t names_len,
+                          uint16_t *first, size_t first_len, uint16_t *next, size_t next_len, size_t place);
+
+/* As ptp_table_collect. */
+int64_t ptp_linked_collect(uint32_t *handles, size_t handles_len, uint16_t *parents, size_t parents_len, uint32_t *ends, size_t ends_len,
+                           uint8_t *marks, size_t marks_len, size_t count, uint8_t *names, size_t names_len, uint16_t *first, size_t first_len,
+                           uint16_t *next, size_t next_len, uint16_t *new_places, size_t new_places_len);
+
+/* As ptp_table_add. */
+int64_t ptp_linked_add(uint32_t *handles, size_t handles_len, uint16_t *parents, size_t parents_len, uint32_t *ends, size_t ends_len,
+                       uint8_t *marks, size_t marks_len, size_t count, uint8_t *names, size_t names_len, uint16_t *first, size_t first_len,
+                       uint16_t *next, size_t next_len, uint16_t *new_places, size_t new_places_len, size_t parent, uint32_t handle,
+                       const uint8_t *name, size_t name_len);
 
 /* ---- settings: a row of entries, a property's value each, for a camera of one serial or for any ----
  *
@@ -571,6 +677,12 @@ enum ptp_record_number {
 /* The record that begins the bytes. Numbers: ptp_record_number. Refusals: END for six bytes, RECORD, LONG, END for the body; of its container
  * END, KIND, END, LENGTH, SIZE, TRAIL; ROOM. */
 int64_t ptp_read_record(const uint8_t *s, size_t s_len, uint64_t *out, size_t out_len);
+
+enum ptp_recording_number { PTP_RECORDING_RECORDS, PTP_RECORDING_NUMBERS /* 1 */ };
+
+/* How many records a recording has, from its first byte to its last; no bytes are a recording of none. Then ptp_read_record reads each, one
+ * behind the other. Numbers: ptp_recording_number. Refusals: those of its first refused record, END by its place in s; ROOM. */
+int64_t ptp_read_recording(const uint8_t *s, size_t s_len, uint64_t *out, size_t out_len);
 
 /* A record of kind PTP_FROM_CAMERA or PTP_TO_CAMERA, whose body is one container. Refusals: RECORD, LONG; of the container END, KIND, END,
  * LENGTH, SIZE, TRAIL; ROOM. */

@@ -1,6 +1,7 @@
 /* Answers questions of docs/ASK.md through ptp.h: one a line in, one a line out. Each name of an answer's number in ptp.h is used here, so that
  * the replay of `ask` tries that it names the right one. The questions are well written; `./ptp rust` leaves the others out. */
 #include "replay_words.h"
+#include "replay_network.h"
 #include "replay_values.h"
 #include "replay_tables.h"
 
@@ -279,6 +280,26 @@ static void record(const uint8_t *s, size_t len)
     print_number(x[PTP_RECORD_TAKEN]);
 }
 
+/* The records lie end to end, and are as many as were counted. */
+static void recording(const uint8_t *s, size_t len)
+{
+    uint64_t count[PTP_RECORDING_NUMBERS], x[PTP_RECORD_NUMBERS];
+    if (!gave(ptp_read_recording(s, len, count, PTP_RECORDING_NUMBERS), 1))
+        return;
+    printf("ok %" PRIu64, count[PTP_RECORDING_RECORDS]);
+    size_t at = 0;
+    for (uint64_t n = 0; n < count[PTP_RECORDING_RECORDS]; n++) {
+        if (!gave(ptp_read_record(s + at, len - at, x, PTP_RECORD_NUMBERS), 9))
+            return;
+        print_number(x[PTP_RECORD_KIND]);
+        print_number(at + x[PTP_RECORD_BODY_START]);
+        print_number(x[PTP_RECORD_BODY_LENGTH]);
+        at += x[PTP_RECORD_TAKEN];
+    }
+    if (at != len)
+        printf(" ?");
+}
+
 static void copy(const uint8_t *s, size_t len, const char *room_word)
 {
     uint64_t left[PTP_LEFT_NUMBERS];
@@ -411,6 +432,12 @@ static void ask(char *const *word)
         settings_store(number_of(word[1]) == 2, word[2], word[3], word[4]);
     else if (strcmp(kind, "record") == 0)
         record(first, len);
+    else if (strcmp(kind, "recording") == 0)
+        recording(first, len);
+    else if (strcmp(kind, "packet") == 0)
+        packet(long_of(word[1]), first, read_bytes(word[2], first));
+    else if (strcmp(kind, "to-network") == 0 || strcmp(kind, "from-network") == 0)
+        translate(kind, word);
     else if (strcmp(kind, "copy") == 0)
         copy(first, len, word[2]);
     else if (strcmp(kind, "mend") == 0)

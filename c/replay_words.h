@@ -10,7 +10,7 @@
 #include <stdlib.h>
 #include <string.h>
 
-enum { LONGEST = 1200000, MOST_PARAMS = 4096, MOST_WORDS = 10 };
+enum { LONGEST = 1200000, MOST_PARAMS = 4096, MOST_WORDS = 12 };
 
 static char line[LONGEST + 2];
 static uint8_t first[LONGEST], second[LONGEST]; /* the bytes of a question's last words */

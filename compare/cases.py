@@ -4,6 +4,7 @@ import random
 
 from compare.cases_datasets import DATASET_CASES
 from compare.cases_mending import MENDING_CASES
+from compare.cases_network import NETWORK_CASES
 from compare.cases_panel import PANEL_CASES
 from compare.cases_recording import RECORDING_CASES
 from compare.cases_session import SESSION_CASES
@@ -16,7 +17,7 @@ from model import names
 CASES = {
     "response-name": name_cases("response-name", names.FIRST_RESPONSE, len(names.RESPONSES)),
     "command-name": name_cases("command-name", names.FIRST_COMMAND, len(names.COMMANDS)),
-    **VALUE_CASES, **DATASET_CASES, **SESSION_CASES, **PANEL_CASES, **TREE_CASES, **SETTINGS_CASES, **RECORDING_CASES, **MENDING_CASES, **MALFORMED_CASES,
+    **VALUE_CASES, **DATASET_CASES, **SESSION_CASES, **NETWORK_CASES, **PANEL_CASES, **TREE_CASES, **SETTINGS_CASES, **RECORDING_CASES, **MENDING_CASES, **MALFORMED_CASES,
 }
 
 # How many cases a turn has of a question; one where nothing is said.

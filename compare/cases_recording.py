@@ -1,4 +1,4 @@
-"""Cases for records and listings."""
+"""Cases for records, whole recordings and listings."""
 
 import itertools
 
@@ -110,6 +110,24 @@ def one_copy(rng):
     return f"copy {hexed(data)} {room_for(rng, lambda: recording.copied(data).data)}"
 
 
+def read_recordings():
+    """Those that are copied; one with each byte changed; joined and doubled."""
+    data = small_recording()
+    yield from itertools.chain(copied_recordings(), (data[:length] for length in range(len(data) + 1)), [data + data, data + data[:-1]])
+    for place, value in itertools.product(range(len(data)), (0, 1, 3, 4, 6, 255)):
+        yield data[:place] + bytes([value]) + data[place + 1:]
+    yield from short_records()
+
+
+def short_whole_recording(rng):
+    return (f"recording {hexed(data)}" for data in read_recordings())
+
+
+def one_whole_recording(rng):
+    data = b"".join(random_record(rng) for _ in range(rng.randrange(9)))
+    return f"recording {hexed(maybe_damaged(rng, data))}"
+
+
 def codes_listed():
     """Every kind with codes in and around each table."""
     near = [*range(0x0FFE, 0x101F), *range(0x1FFE, 0x2023), 0, 0x4001, 0xABCD, 0xFFFF]
@@ -142,6 +160,7 @@ def one_listing(rng):
 
 RECORDING_CASES = {
     "record": Cases(short_record, one_record),
+    "recording": Cases(short_whole_recording, one_whole_recording),
     "write-record": Cases(short_write_record, one_write_record),
     "copy": Cases(short_copy, one_copy),
     "listing": Cases(short_listing, one_listing),

@@ -1,4 +1,4 @@
-"""Cases for the tree: tables, walks, paths; deleting, collecting, adding."""
+"""Cases for the tree: tables, walks, folder views, paths; deleting, collecting, adding; and of tables that keep their links."""
 
 import itertools
 
@@ -179,6 +179,10 @@ def place_of(rng, table):
     return rng.choice([0, max(0, count - 1), count, rng.randrange(count + 2)])
 
 
+def ask_folders(rng, table):
+    return f"folders {words(table)}"
+
+
 def ask_path(rng, table):
     place = place_of(rng, table)
     return f"path {words(table)} {place} {room_for(rng, lambda: tree.path(table, place))}"
@@ -188,12 +192,44 @@ def ask_paths(rng, table):
     return f"paths {words(table)} {room_for(rng, lambda: tree.paths(table, MOST_ROOM)[0])}"
 
 
+def ask_folder_paths(rng, table):
+    return f"folder-paths {words(table)} {room_for(rng, lambda: tree.paths(table, MOST_ROOM, tree.folder_order)[0])}"
+
+
 def ask_delete(rng, table):
     return f"delete {words(table)} {place_of(rng, table)}"
 
 
 def ask_collect(rng, table):
     return f"collect {words(table)}"
+
+
+def ask_link(rng, table):
+    return f"link {words(table)}"
+
+
+def kept_links(rng, table):
+    """The table's own links, or with one changed, also at a place that is not live or past the count; at times a list of another length."""
+    links = tree.links(table) if tree.has_rule(table) else tree.Links([0] * MOST, [0] * MOST)
+    chance = rng.random()
+    if chance < 0.75:
+        return links
+    field = rng.choice(tree.Links._fields)
+    row = list(getattr(links, field))
+    if chance < 0.8:
+        return links._replace(**{field: rng.choice([row[:-1], row + [0], []])})
+    place = rng.choice([rng.randrange(min(table.count, MOST) + 1), rng.randrange(MOST), MOST - 1]) % MOST
+    row[place] = rng.choice([0, 1, place, (row[place] + 1) & 0xFFFF, 0xFFFF])
+    return links._replace(**{field: row})
+
+
+def linked(ask):
+    """A question about a table, asked of one that keeps its links: they follow the table's words."""
+    def asked(rng, table):
+        question, *parts = ask(rng, table).split(" ")
+        count = len(tree.Table._fields)
+        return " ".join([f"linked-{question}", *parts[:count], *map(show_runs, kept_links(rng, table)), *parts[count:]])
+    return asked
 
 
 def new_name(rng, table):
@@ -219,4 +255,12 @@ TREE_CASES = {
     "delete": on_table(ask_delete, lambda: []),
     "collect": on_table(ask_collect, lambda: [f"collect {words(longest_chain())}"]),
     "add": on_table(ask_add, lambda: []),
+    "folders": on_table(ask_folders, lambda: [f"folders {words(longest_chain())}"]),
+    "folder-paths": on_table(ask_folder_paths, lambda: []),
+    "link": on_table(ask_link, lambda: []),
+    "linked-walk": on_table(linked(ask_walk), lambda: []),
+    "linked-paths": on_table(linked(ask_paths), lambda: []),
+    "linked-delete": on_table(linked(ask_delete), lambda: []),
+    "linked-collect": on_table(linked(ask_collect), lambda: []),
+    "linked-add": on_table(linked(ask_add), lambda: []),
 }

@@ -17,13 +17,16 @@ MOST_NAME_BYTES = 100_000
 # What the port adds has no answer of the Rust's.
 ADDED = {
     "tidy-device": "D1", "tidy-object": "D1", "tidy-storage": "D1", "tidy-property": "D1",
-    "record": "D2", "write-record": "D2", "copy": "D2", "listing": "D2",
+    "record": "D2", "recording": "D2", "write-record": "D2", "copy": "D2", "listing": "D2",
     "nth": "D3", "list": "D3", "step": "D3", "newer": "D3",
     "write-string": "D4",
     "panel": "D29",
     "settings": "D31", "settings-find": "D31", "settings-store": "D31",
     "mend": "D32",
     "delete": "D33", "collect": "D33", "add": "D33",
+    "link": "D34", "linked-walk": "D34", "linked-paths": "D34", "linked-delete": "D34", "linked-collect": "D34", "linked-add": "D34",
+    "folders": "D35", "folder-paths": "D35",
+    "to-network": "D36", "from-network": "D36", "packet": "D36",
     MALFORMED: "D15",
 }
 

@@ -20,6 +20,12 @@ ptp settings [FILE]                     shows a row of settings, from the file o
 ptp settings FILE set VENDOR PROPERTY TYPE VALUE [SERIAL]
                                         stores a setting for any camera, or for the camera of a serial, in place of the one that was there
                                             ptp settings my.settings set 6 0x500d UINT32 80
+ptp folders [FILE]                      shows the paths of an object table folder by folder, a line each, from the file or from standard input
+                                        where the table is refused, only that is shown and the status is 1
+                                            ptp folders examples/card.table
+ptp packets [FILE]                      shows the packets of PTP/IP, a line each, from the file or from standard input (no file, or -)
+                                        where one is refused, that ends it and the status is 1
+                                            ptp packets examples/shutter.packets
 ptp help                                this page
 
 Status: 0 done; 1 something could not be read, written or kept, or was refused; 2 nothing was run: a word is not known, or a file is not there.

@@ -29,6 +29,16 @@ def run_settings(words):
     return settings.run(words)
 
 
+def run_packets(words):
+    from door import packets
+    return packets.run(words)
+
+
+def run_folders(words):
+    from door import folders
+    return folders.run(words)
+
+
 def run_help(words):
     from door import help
     if words:
@@ -36,7 +46,8 @@ def run_help(words):
     return help.show()
 
 
-COMMANDS = {"list": run_list, "copy": run_copy, "mend": run_mend, "settings": run_settings, "ask": run_ask, "help": run_help}
+COMMANDS = {"list": run_list, "copy": run_copy, "mend": run_mend, "settings": run_settings, "packets": run_packets, "folders": run_folders,
+            "ask": run_ask, "help": run_help}
 HELP = ("-h", "--help")
 
 

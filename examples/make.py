@@ -1,7 +1,9 @@
-"""Makes the recordings of this folder, and their listings, from the descriptions beside it (*.txt); and the rows of settings, and their texts.
+"""Makes the recordings of this folder, and their listings, from the descriptions beside it (*.txt); and the rows of settings and of packets, and
+the object tables, with their texts.
 
     python3 -m examples.make            writes NAME.recording and NAME.listing for each `recording NAME`, of a damaged one also NAME.mended and
-                                        NAME.report; NAME.settings and NAME.shown for each `settings NAME`
+                                        NAME.report; NAME.settings and NAME.shown for each `settings NAME`; NAME.packets and
+                                        NAME.shown for each `packets NAME`; NAME.table and NAME.shown for each `table NAME`
     python3 -m examples.make --check    writes nothing, and fails where a file is not what its description says
 
 A listing's lines, a report's and a text's are made from the description, line by line, not by reading the bytes. Then the model, which
@@ -23,6 +25,18 @@ A row's lines, each one entry:
     any VENDOR PROPERTY TYPE FIELD ..             for any camera
     one SERIAL VENDOR PROPERTY TYPE FIELD ..      for the camera of this serial
 
+A packet's lines, each one packet; CODE is as above:
+
+    request PHASE CODE NUMBER FIELD ..  the parameters are the fields
+    response CODE NUMBER FIELD ..
+    start-data NUMBER TOTAL
+    data NUMBER FIELD ..                and end-data
+
+A table's lines, each one object, the first its root:
+
+    object PARENT HANDLE NAME           PARENT is a place, which counts these lines from 0
+    ended PARENT HANDLE NAME            one that is not live
+
 A field is [LABEL=]TYPE:VALUE with the types u8, u16, u32, u64, string, array16, array32, hex and zeros (a count).
 """
 
@@ -32,8 +46,8 @@ import shlex
 import sys
 from collections import namedtuple
 
-from model import listing, mending, names, settings
-from model.ask import show
+from model import listing, mending, names, network, settings, tree
+from model.ask import show, show_runs
 from model.values import Text
 
 FOLDER = pathlib.Path(__file__).resolve().parent
@@ -173,7 +187,43 @@ def one_line(_, serial, vendor, code, value_type, *words):
     return entry(settings.FOR_ONE, vendor, code, (string(serial), text_shown(serial)), value_type, words)
 
 
-LINES = {"in": container_line, "out": container_line, "note": note_line, "raw": raw_line, "any": any_line, "one": one_line}
+def packet(kind, head, code, number, behind):
+    """A packet's kind by number and by word; the bytes of the fields before its number and of those behind it."""
+    rest = head + little(int(number), 4) + behind[0]
+    words = [word for word in (kind[1], code, number, behind[1]) if word is not None]
+    return Made(little(8 + len(rest), 4) + little(kind[0], 4) + rest, " ".join(words), True, [])
+
+
+def counted(words):
+    """Fields, and how many bytes they are."""
+    data = fields(words)
+    return data, str(len(data))
+
+
+def request_line(_, phase, code, number, *words):
+    return packet((6, "request"), little(int(phase), 4) + little(code_of("Command", code), 2), code, number, counted(words))
+
+
+def response_line(_, code, number, *words):
+    return packet((7, "response"), little(code_of("Response", code), 2), code, number, counted(words))
+
+
+def start_data_line(_, number, total):
+    return packet((9, "start-data"), b"", None, number, (little(int(total), 8), total))
+
+
+def data_line(word, number, *words):
+    return packet(({"data": 10, "end-data": 12}[word], word), b"", None, number, counted(words))
+
+
+def object_line(word, parent, handle, name):
+    return int(parent), int(handle), name, word == "object"
+
+
+LINES = {
+    "in": container_line, "out": container_line, "note": note_line, "raw": raw_line, "any": any_line, "one": one_line, "request": request_line,
+    "response": response_line, "start-data": start_data_line, "data": data_line, "end-data": data_line, "object": object_line, "ended": object_line,
+}
 
 
 def joined_lines(text):
@@ -190,8 +240,8 @@ def joined_lines(text):
 
 
 def described():
-    """The lines of each recording and of each row of settings, by its name."""
-    found = {"recording": {}, "settings": {}}
+    """The lines of each recording, of each row of settings or packets, and of each table, by its name."""
+    found = {"recording": {}, "settings": {}, "packets": {}, "table": {}}
     for description in sorted(FOLDER.glob("*.txt")):
         for line in joined_lines(description.read_text(encoding="utf-8")):
             words = shlex.split(line)
@@ -275,6 +325,66 @@ def row_outputs(name, lines):
     yield f"{name}.shown", shown.encode("ascii")
 
 
+def packets_by_model(data):
+    """The text of a row of packets, from its bytes; each transaction in it must be one."""
+    text, at, begins = "", 0, 0
+    for one in network.packets(data):
+        code = one.fields.get("code")
+        named = names.response_name(code) if one.kind == network.ANSWER else code and names.command_name(code)
+        words = [PACKET_WORDS[one.kind], *([] if code is None else [named or f"0x{code:04x}"]), one.fields["number"],
+                 one.fields.get("total", one.after - one.start)]
+        text += f"{at} {' '.join(map(str, words))}\n"
+        at = one.after
+        if one.kind == network.ANSWER:
+            network.from_network(data[begins:at])
+            begins = at
+    return text
+
+
+PACKET_WORDS = {
+    network.REQUEST: "request", network.ANSWER: "response", network.START_DATA: "start-data", network.SOME_DATA: "data", network.END_DATA: "end-data",
+}
+
+
+def packets_outputs(name, lines):
+    made, place, shown = made_of(lines), 0, ""
+    for one in made:
+        shown += f"{place} {one.text}\n"
+        place += len(one.data)
+    data = b"".join(one.data for one in made)
+    if packets_by_model(data) != shown:
+        sys.exit(f"examples: the model shows {name} otherwise than its description says")
+    yield f"{name}.packets", data
+    yield f"{name}.shown", shown.encode("ascii")
+
+
+def paths_below(objects, place, above):
+    """The paths of the live objects from a place down, each folder before what it holds: by going down, as a person would."""
+    path = above + ("/" if above else "") + objects[place][2]
+    yield path
+    for child, (parent, _, _, is_live) in enumerate(objects):
+        if child and parent == place and is_live:
+            yield from paths_below(objects, child, path)
+
+
+def table_of(objects):
+    spelled = [string(name) for _, _, name, _ in objects]
+    ends = [sum(map(len, spelled[:count + 1])) for count in range(len(spelled))]
+    rows = [[handle for _, handle, _, _ in objects], [parent for parent, _, _, _ in objects], ends, [int(is_live) for _, _, _, is_live in objects]]
+    filled = [row + [0] * (tree.PLACES - len(row)) for row in rows]
+    return tree.Table(*filled, len(objects), b"".join(spelled))
+
+
+def table_outputs(name, lines):
+    objects = made_of(lines)
+    table, paths = table_of(objects), list(paths_below(objects, 0, ""))
+    if [tree.path(table, place).decode() for place in tree.folders(table)] != paths:
+        sys.exit(f"examples: the model shows {name} otherwise than its description says")
+    words = [*map(show_runs, table[:4]), str(table.count), table.names.hex()]
+    yield f"{name}.table", (" ".join(words) + "\n").encode("ascii")
+    yield f"{name}.shown", "".join(path.replace("\\", "\\\\") + "\n" for path in paths).encode()
+
+
 def recording_outputs(name, lines, recordings):
     data, listed, dropped = recording_of(lines, recordings)
     mended = mending.mend(data)
@@ -294,6 +404,10 @@ def outputs():
         yield from recording_outputs(name, lines, found["recording"])
     for name, lines in found["settings"].items():
         yield from row_outputs(name, lines)
+    for name, lines in found["packets"].items():
+        yield from packets_outputs(name, lines)
+    for name, lines in found["table"].items():
+        yield from table_outputs(name, lines)
 
 
 def main():

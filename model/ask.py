@@ -8,7 +8,7 @@ import itertools
 import re
 import sys
 
-from model import containers, datasets, listing, mending, names, panel, recording, session, settings, tree, values
+from model import containers, datasets, listing, mending, names, network, panel, recording, session, settings, tree, values
 from model.refusals import ROOM, Refused, refuse_if
 
 LONGEST_LINE = 1_200_000
@@ -110,6 +110,12 @@ def u32s(word):
 
 def layout(word):
     if word not in datasets.LAYOUTS:
+        raise Malformed
+    return word
+
+
+def direction(word):
+    if word not in network.DIRECTIONS:
         raise Malformed
     return word
 
@@ -329,6 +335,21 @@ def write_container(kind, code, tid, payload, size):
     return writing_bytes(size, containers.write_container, kind, code, tid, payload)
 
 
+def to_network(way, data, size):
+    return writing_bytes(size, network.to_network, way, data)
+
+
+def from_network(data, size):
+    return writing_bytes(size, network.from_network, data)
+
+
+def packet(at, data):
+    """The kind and its fields in their order, then where the bytes behind them are, if it can have any, and the place after it."""
+    read = network.read_packet(data, at)
+    behind = [] if read.kind == network.START_DATA else [read.start, read.after - read.start]
+    return ok(read.kind, *read.fields.values(), *behind, read.after)
+
+
 def command(state, code, parameters, size):
     return making(size, session.command, state, code, parameters)
 
@@ -364,31 +385,51 @@ def info(read):
     return lambda payload: ok(show_all(read(payload)))
 
 
-def walk(*words):
-    return ok(show_list(tree.walk(tree.Table(*words))))
-
-
 def path(*words):
     *table, place, size = words
     return writing_bytes(size, tree.path, tree.Table(*table), place)
 
 
-def paths(*words):
-    *table, size = words
-    try:
-        joined, ends = tree.paths(tree.Table(*table), size)
-    except Refused as refused:
-        return f"no {refused} {laid_out(size, b'')}"
-    return ok(len(joined), laid_out(size, joined), filled(ends, 32))
+def parted(words, keeps_links):
+    """The words of a table, its links if it keeps them, and those that follow."""
+    table, rest = tree.Table(*words[:len(TABLE_WORDS)]), words[len(TABLE_WORDS):]
+    return (table, tree.Links(*rest[:2]), rest[2:]) if keeps_links else (table, None, rest)
 
 
-def delete(*words):
-    *table, place = words
-    table = tree.Table(*table)
+def check(table, links):
+    if links:
+        tree.check_links(table, links)
+
+
+def show_links(links):
+    return list(map(show_runs, links or ()))
+
+
+def listing_places(order, keeps_links=False):
+    def answer(*words):
+        table, links, _ = parted(words, keeps_links)
+        check(table, links)
+        return ok(show_list(order(table)))
+    return answer
+
+
+def listing_paths(order, keeps_links=False):
+    def answer(*words):
+        table, links, (size,) = parted(words, keeps_links)
+        try:
+            check(table, links)
+            joined, ends = tree.paths(table, size, order)
+        except Refused as refused:
+            return f"no {refused} {laid_out(size, b'')}"
+        return ok(len(joined), laid_out(size, joined), filled(ends, 32))
+    return answer
+
+
+def link(*words):
     try:
-        return ok(show_runs(tree.delete(table, place)))
+        return ok(*show_links(tree.link(tree.Table(*words))))
     except Refused as refused:
-        return f"no {refused} {show_runs(table.marks)}"
+        return " ".join([f"no {refused}", filled([], 16), filled([], 16)])
 
 
 def show_table(table, new_places):
@@ -396,23 +437,40 @@ def show_table(table, new_places):
     return [*(show_runs(getattr(table, row)) for row in tree.LISTS), show_bytes(table.names), filled(new_places, 16)]
 
 
-def collect(*words):
-    table = tree.Table(*words)
-    try:
-        made = tree.collect(table)
-    except Refused as refused:
-        return " ".join([f"no {refused}", *show_table(table, [])])
-    return ok(made.table.count, *show_table(made.table, made.new_places))
+def delete(table, place):
+    after = table._replace(marks=tree.delete(table, place))
+    return after, show_marks(after)
 
 
-def add(*words):
-    *table, parent, handle, name = words
-    table = tree.Table(*table)
-    try:
-        made = tree.add(table, parent, handle, name)
-    except Refused as refused:
-        return " ".join([f"no {refused}", *show_table(table, [])])
-    return ok(made.place, *show_table(made.table, made.new_places))
+def show_marks(table):
+    return [show_runs(table.marks)]
+
+
+def collect(table):
+    made = tree.collect(table)
+    return made.table, [made.table.count, *show_table(made.table, made.new_places)]
+
+
+def add(table, parent, handle, name):
+    made = tree.add(table, parent, handle, name)
+    return made.table, [made.place, *show_table(made.table, made.new_places)]
+
+
+def show_unchanged(table):
+    return show_table(table, [])
+
+
+def changing(change, show_refused, keeps_links=False):
+    """A table changed, or as it was; one that keeps its links has them last. `change` gives the table after and the words that tell of it."""
+    def answer(*words):
+        table, links, more = parted(words, keeps_links)
+        try:
+            check(table, links)
+            after, told = change(table, *more)
+        except Refused as refused:
+            return " ".join([f"no {refused}", *show_refused(table), *show_links(links)])
+        return ok(*told, *show_links(links and tree.links(after)))
+    return answer
 
 
 def show_entry(entry):
@@ -439,6 +497,12 @@ def settings_store(which, row, entry, size):
 
 def record(data):
     return ok(*recording.read_record(data))
+
+
+def whole_recording(data):
+    """How many records, and of each its kind and where its body is."""
+    records = recording.read_recording(data)
+    return ok(len(records), *(word for one in records for word in (one.kind, one.start, one.length)))
 
 
 def write_record(kind, body, size):
@@ -470,6 +534,7 @@ def whole_listing(data):
 
 
 TABLE_WORDS = (u32s, u16s, u32s, u8s, u64, hex_bytes)
+KEPT_WORDS = (*TABLE_WORDS, u16s, u16s)
 
 # Each question: how its words are read, and who answers it.
 QUESTIONS = {
@@ -499,6 +564,9 @@ QUESTIONS = {
     "header": ((hex_bytes,), header),
     "container": ((hex_bytes,), container),
     "write-container": ((u16, u16, u32, hex_bytes, room), write_container),
+    "to-network": ((direction, hex_bytes, room), to_network),
+    "from-network": ((hex_bytes, room), from_network),
+    "packet": ((u64, hex_bytes), packet),
     "command": ((u32, u16, u32s, room), command),
     "command-data": ((u32, u16, u32s, hex_bytes, room), command_data),
     "panel": ((layout, u32, hex_bytes, u16, hex_bytes, room), set_value),
@@ -510,16 +578,25 @@ QUESTIONS = {
     "storage-info": ((hex_bytes,), info(session.storage_info)),
     "device-info": ((hex_bytes,), info(session.device_info)),
     "object-info": ((hex_bytes,), info(session.object_info)),
-    "walk": (TABLE_WORDS, walk),
+    "walk": (TABLE_WORDS, listing_places(tree.walk)),
     "path": ((*TABLE_WORDS, u64, room), path),
-    "paths": ((*TABLE_WORDS, room), paths),
-    "delete": ((*TABLE_WORDS, u64), delete),
-    "collect": (TABLE_WORDS, collect),
-    "add": ((*TABLE_WORDS, u64, u32, hex_bytes), add),
+    "paths": ((*TABLE_WORDS, room), listing_paths(tree.walk_order)),
+    "folders": (TABLE_WORDS, listing_places(tree.folders)),
+    "folder-paths": ((*TABLE_WORDS, room), listing_paths(tree.folder_order)),
+    "delete": ((*TABLE_WORDS, u64), changing(delete, show_marks)),
+    "collect": (TABLE_WORDS, changing(collect, show_unchanged)),
+    "add": ((*TABLE_WORDS, u64, u32, hex_bytes), changing(add, show_unchanged)),
+    "link": (TABLE_WORDS, link),
+    "linked-walk": (KEPT_WORDS, listing_places(tree.walk, keeps_links=True)),
+    "linked-paths": ((*KEPT_WORDS, room), listing_paths(tree.walk_order, keeps_links=True)),
+    "linked-delete": ((*KEPT_WORDS, u64), changing(delete, show_marks, keeps_links=True)),
+    "linked-collect": (KEPT_WORDS, changing(collect, show_unchanged, keeps_links=True)),
+    "linked-add": ((*KEPT_WORDS, u64, u32, hex_bytes), changing(add, show_unchanged, keeps_links=True)),
     "settings": ((edition, hex_bytes), settings_row),
     "settings-find": ((edition, hex_bytes, u32, u16, u16s), settings_find),
     "settings-store": ((edition, hex_bytes, hex_bytes, room), settings_store),
     "record": ((hex_bytes,), record),
+    "recording": ((hex_bytes,), whole_recording),
     "write-record": ((u16, hex_bytes, room), write_record),
     "copy": ((hex_bytes, room), copy),
     "mend": ((hex_bytes, room, report), mend),

@@ -52,11 +52,18 @@ def write_record(kind, body):
     return (RECORD_HEADER + len(body)).to_bytes(4, "little") + kind.to_bytes(2, "little") + body
 
 
-def copied(data):
-    """The recording without its notes; or its first refusal, the place in the data."""
-    at, kept, left = 0, [], []
+def read_recording(data):
+    """The records from end to end; or the first refusal, the place in the data."""
+    records, at = [], 0
     while at < len(data):
-        record = read_record(data, at)
-        (left if record.kind == NOTE else kept).append(data[at:record.after])
-        at = record.after
+        records.append(read_record(data, at))
+        at = records[-1].after
+    return records
+
+
+def copied(data):
+    """The recording without its notes."""
+    kept, left = [], []
+    for record in read_recording(data):
+        (left if record.kind == NOTE else kept).append(data[record.start - RECORD_HEADER:record.after])
     return Copy(b"".join(kept), len(left), sum(map(len, left)))

@@ -19,6 +19,9 @@ VALUE = 16     # the description's form does not allow the value
 EDITION = 17   # an entry's kind is not one of the edition
 FULL = 18      # 256 entries with other keys are held
 TAKEN = 19     # 1,024 live objects are held
+PACKET = 20    # a packet's kind is none of the five that a transaction has
+FIELDS = 21    # a packet's length is not of whole fields, or the data's joined length is not the announced one
+TRANSACTION = 22  # not one transaction
 
 
 class Refused(Exception):

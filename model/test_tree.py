@@ -1,4 +1,4 @@
-"""Deleted shots (request 8 of document 02): what the theorems of crates/tree and crates/shots say, run on the model over small tables and full ones."""
+"""The tree (requests 8, 9 and 13 of document 02): what the theorems of crates/tree and crates/shots say, run on the model over small tables and full ones."""
 
 import itertools
 import random
@@ -93,6 +93,45 @@ class Adding(unittest.TestCase):
         if new == list(range(table.count)) and place == table.count:
             for row in tree.LISTS:
                 self.assertEqual(getattr(after, row)[:place], getattr(table, row)[:place])
+
+
+class Linking(unittest.TestCase):
+    def test_a_places_chain_is_its_children_and_all_chains_hold_each_place_once(self):
+        for table in tables():
+            links, seen = tree.links(table), []
+            for place in tree.live_places(table):
+                chain = [links.first[place]]
+                while chain[-1]:
+                    chain.append(links.next[chain[-1]])
+                self.assertEqual(chain[:-1], [at for at in tree.live_places(table)[1:] if table.parents[at] == place])
+                seen += chain[:-1]
+            self.assertEqual(sorted(seen), tree.live_places(table)[1:])
+            self.assertEqual(sum(map(bool, links.first + links.next)), len(seen))
+
+
+class Viewing(unittest.TestCase):
+    def test_each_folder_stands_before_all_below_it_and_they_before_what_follows(self):
+        for table in tables():
+            view, ways = tree.folders(table), tree.ways(table)
+            self.assertEqual(sorted(view), sorted(tree.walk(table)))
+            for at, place in enumerate(view[:200]):
+                below = [one for one in view if place in ways[one]]
+                self.assertEqual(view[at:at + len(below)], below)
+
+    def test_siblings_rise(self):
+        for table in tables():
+            last = {}
+            for place in tree.folders(table)[1:]:
+                self.assertGreater(place, last.get(table.parents[place], 0))
+                last[table.parents[place]] = place
+
+    def test_collecting_moves_the_view_and_deleting_shortens_it(self):
+        for table in tables():
+            after, new = tree.collect(table)
+            self.assertEqual(tree.folders(after), [new[place] for place in tree.folders(table)])
+            for place in tree.live_places(table)[1:4]:
+                ended = table._replace(marks=tree.delete(table, place))
+                self.assertEqual(tree.folders(ended), [at for at in tree.folders(table) if place not in tree.ways(table)[at]])
 
 
 if __name__ == "__main__":

@@ -1,9 +1,11 @@
-"""The tree ("Tree" of document 01; deleted shots, request 8 of document 02): the table's rule, the walk's order, paths; deleting, collecting, adding.
+"""The tree ("Tree" of document 01; deleted shots, links and folders, requests 8, 9 and 13 of document 02): the table's rule, the orders of walk and
+folder view, paths; deleting, collecting, adding; the links of a table that keeps them.
 
 A table is handles, parents, ends and live marks, each a list of 1,024 places, a count up to which the rules hold, and the names' bytes, end to
 end. What stands at and past the count is not looked at. A mark of 0 is not live, every other is.
 """
 
+import collections
 import itertools
 from collections import namedtuple
 
@@ -16,6 +18,8 @@ LISTS = ("handles", "parents", "ends", "marks")
 GONE = 0xFFFF
 
 Table = namedtuple("Table", (*LISTS, "count", "names"))
+# Of each place its first child, and the next below the same parent; 0 is none.
+Links = namedtuple("Links", "first next")
 # A table after collecting, and for each old place its new one.
 Collected = namedtuple("Collected", "table new_places")
 # A table after adding, the place of the object, and for each old place its new one.
@@ -75,15 +79,49 @@ def ways(table):
     return found
 
 
-def walk(table):
-    """"By depth, then by the places from the root down, compared left to right", of the live objects."""
+def links(table):
+    """Of a live place the lowest live child, and the next higher live place with the same parent. All else is 0."""
+    below = collections.defaultdict(list)
+    for place in live_places(table)[1:]:
+        below[table.parents[place]].append(place)
+    first, following = [0] * PLACES, [0] * PLACES
+    for parent, children in below.items():
+        first[parent] = children[0]
+        for child, sibling in zip(children, children[1:]):
+            following[child] = sibling
+    return Links(first, following)
+
+
+def link(table):
     read_names(table)
-    return _order(table)
+    return links(table)
 
 
-def _order(table):
+def check_links(table, kept):
+    """A table that keeps its links: links that are not its own are one more cause of 11, before the names."""
+    refuse_if(not has_rule(table) or kept != links(table), TABLE)
+    read_names(table)
+
+
+def walk(table):
+    read_names(table)
+    return walk_order(table)
+
+
+def walk_order(table):
+    """"By depth, then by the places from the root down, compared left to right", of the live objects."""
     way = ways(table)
     return sorted(live_places(table), key=lambda place: (len(way[place]), way[place]))
+
+
+def folders(table):
+    read_names(table)
+    return folder_order(table)
+
+
+def folder_order(table):
+    """"In the order of the places from the root down compared left to right, a folder before what it holds", of the live objects."""
+    return sorted(live_places(table), key=ways(table).__getitem__)
 
 
 def _path_of(names, way):
@@ -111,13 +149,13 @@ def _path_lengths(table, names):
     return lengths
 
 
-def paths(table, room):
-    """All paths of live objects in walk order, end to end, and where each ends. The need is known before a path is made."""
+def paths(table, room, order=walk_order):
+    """All paths of live objects in this order, end to end, and where each ends. The need is known before a path is made."""
     names = read_names(table)
     lengths = _path_lengths(table, names)
     refuse_if(sum(lengths[place] for place in live_places(table)) > room, ROOM)
     way, joined, ends, length = ways(table), [], [], 0
-    for place in _order(table):
+    for place in order(table):
         joined.append(_path_of(names, way[place]))
         length += len(joined[-1])
         ends.append(length)

@@ -68,7 +68,7 @@ def code_faults(header):
 # ---- refusals, type codes and kinds
 
 def refusal_faults(header):
-    judged = numbered(pair for crate in ('layout', 'panel', 'settings', 'shots')
+    judged = numbered(pair for crate in ('layout', 'panel', 'settings', 'shots', 'network')
                       for pair in re.findall(r'^([A-Z]+) = (\d+)$', text('crates', crate, 'specs', 'Refusals.antt'), re.M))
     yield from compared('c/ptp.h', enum(header, 'ptp_refusal', 'PTP_'), judged)
     rust = text('rust', 'src', 'refusal.rs')
@@ -157,7 +157,7 @@ def row_faults(header):
 
 
 def unused(header):
-    replay = '\n'.join(without_comments(text('c', name)) for name in ('replay.c', 'replay_words.h', 'replay_values.h', 'replay_tables.h'))
+    replay = '\n'.join(without_comments(text('c', name)) for name in ('replay.c', 'replay_words.h', 'replay_values.h', 'replay_tables.h', 'replay_network.h'))
     for name in re.findall(r'enum (ptp_\w+_number) \{', header):
         for word in enum(header, name, ''):
             if not re.search(r'\b%s\b' % word, replay):

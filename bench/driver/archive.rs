@@ -26,6 +26,30 @@ mod archive {
         pub fn ptp_paths(handles: *const u32, handle_count: usize, parents: *const u16, parent_count: usize,
                      ends: *const u32, end_count: usize, marks: *const u8, mark_count: usize, count: usize, names: *const u8, len: usize,
                      out: *mut u8, room: usize, out_ends: *mut u32, out_count: usize) -> u64;
+        pub fn ptp_walk(handles: *const u32, handle_count: usize, parents: *const u16, parent_count: usize,
+                        ends: *const u32, end_count: usize, marks: *const u8, mark_count: usize, count: usize, names: *const u8, len: usize,
+                        places: *mut u16, place_count: usize) -> u64;
+        pub fn ptp_folders(handles: *const u32, handle_count: usize, parents: *const u16, parent_count: usize,
+                           ends: *const u32, end_count: usize, marks: *const u8, mark_count: usize, count: usize, names: *const u8, len: usize,
+                           places: *mut u16, place_count: usize) -> u64;
+        pub fn ptp_folder_paths(handles: *const u32, handle_count: usize, parents: *const u16, parent_count: usize,
+                                ends: *const u32, end_count: usize, marks: *const u8, mark_count: usize, count: usize, names: *const u8, len: usize,
+                                out: *mut u8, room: usize, out_ends: *mut u32, out_count: usize) -> u64;
+        pub fn ptp_table_link(handles: *const u32, handle_count: usize, parents: *const u16, parent_count: usize,
+                              ends: *const u32, end_count: usize, marks: *const u8, mark_count: usize, count: usize, names: *const u8, len: usize,
+                              first: *mut u16, first_count: usize, next: *mut u16, next_count: usize) -> u64;
+        pub fn ptp_linked_walk(handles: *const u32, handle_count: usize, parents: *const u16, parent_count: usize,
+                               ends: *const u32, end_count: usize, marks: *const u8, mark_count: usize, count: usize, names: *const u8, len: usize,
+                               first: *const u16, first_count: usize, next: *const u16, next_count: usize,
+                               places: *mut u16, place_count: usize) -> u64;
+        pub fn ptp_linked_delete(handles: *const u32, handle_count: usize, parents: *const u16, parent_count: usize,
+                                 ends: *const u32, end_count: usize, marks: *mut u8, mark_count: usize, count: usize, names: *const u8, len: usize,
+                                 first: *mut u16, first_count: usize, next: *mut u16, next_count: usize,
+                                 place: usize) -> u64;
+        pub fn ptp_linked_add(handles: *mut u32, handle_count: usize, parents: *mut u16, parent_count: usize,
+                              ends: *mut u32, end_count: usize, marks: *mut u8, mark_count: usize, count: usize, names: *mut u8, len: usize,
+                              first: *mut u16, first_count: usize, next: *mut u16, next_count: usize,
+                              new_places: *mut u16, place_count: usize, parent: usize, handle: u32, name: *const u8, name_len: usize) -> u64;
         pub fn ptp_table_collect(handles: *mut u32, handle_count: usize, parents: *mut u16, parent_count: usize,
                              ends: *mut u32, end_count: usize, marks: *mut u8, mark_count: usize, count: usize, names: *mut u8, len: usize,
                              new_places: *mut u16, place_count: usize) -> u64;
@@ -36,6 +60,8 @@ mod archive {
         pub fn ptp_tidy_device(s: *const u8, len: usize, out: *mut u8, room: usize) -> u64;
         pub fn ptp_tidy_object(s: *const u8, len: usize, out: *mut u8, room: usize) -> u64;
         pub fn ptp_tidy_storage(s: *const u8, len: usize, out: *mut u8, room: usize) -> u64;
+        pub fn ptp_to_network(s: *const u8, len: usize, to_camera: bool, out: *mut u8, room: usize) -> u64;
+        pub fn ptp_from_network(s: *const u8, len: usize, out: *mut u8, room: usize) -> u64;
         pub fn ptp_response_place(code: u16) -> u64;
         pub fn ptp_command_place(code: u16) -> u64;
         pub fn ptp_handles(s: *const u8, len: usize, out: *mut u64, room: usize) -> u64;
@@ -130,20 +156,65 @@ mod archive {
         }
     }
 
+    /// The words of a table, and of one that is changed, with its links.
+    macro_rules! lent {
+        ($function:ident, $table:ident, $pointer:ident $(, $more:expr)*) => {
+            unsafe {
+                $function($table.handles.$pointer(), $table.handles.len(), $table.parents.$pointer(), $table.parents.len(),
+                          $table.ends.$pointer(), $table.ends.len(), $table.marks.$pointer(), $table.marks.len(), $table.count,
+                          $table.names.$pointer(), $table.names.len() $(, $more)*)
+            }
+        };
+    }
+
+    macro_rules! linked {
+        ($function:ident, $table:ident, $pointer:ident $(, $more:expr)*) => {
+            lent!($function, $table, $pointer, $table.first.$pointer(), $table.first.len(), $table.next.$pointer(), $table.next.len() $(, $more)*)
+        };
+    }
+
+    pub fn walk(table: &Table, places: &mut [u16]) -> u64 {
+        lent!(ptp_walk, table, as_ptr, places.as_mut_ptr(), places.len())
+    }
+
+    pub fn folders(table: &Table, places: &mut [u16]) -> u64 {
+        lent!(ptp_folders, table, as_ptr, places.as_mut_ptr(), places.len())
+    }
+
+    pub fn folder_paths(table: &Table, out: &mut [u8], ends: &mut [u32]) -> u64 {
+        lent!(ptp_folder_paths, table, as_ptr, out.as_mut_ptr(), out.len(), ends.as_mut_ptr(), ends.len())
+    }
+
+    pub fn link(table: &mut Table) -> u64 {
+        linked!(ptp_table_link, table, as_mut_ptr)
+    }
+
+    pub fn linked_walk(table: &Table, places: &mut [u16]) -> u64 {
+        linked!(ptp_linked_walk, table, as_ptr, places.as_mut_ptr(), places.len())
+    }
+
+    pub fn linked_delete(table: &mut Table, place: usize) -> u64 {
+        linked!(ptp_linked_delete, table, as_mut_ptr, place)
+    }
+
+    pub fn linked_add(table: &mut Table, new_places: &mut [u16], parent: usize, name: &[u8]) -> u64 {
+        linked!(ptp_linked_add, table, as_mut_ptr, new_places.as_mut_ptr(), new_places.len(), parent, 7, name.as_ptr(), name.len())
+    }
+
+    pub fn to_network(s: &[u8], to_camera: bool, out: &mut [u8]) -> u64 {
+        unsafe { ptp_to_network(s.as_ptr(), s.len(), to_camera, out.as_mut_ptr(), out.len()) }
+    }
+
+    pub fn from_network(s: &[u8], out: &mut [u8]) -> u64 {
+        unsafe { ptp_from_network(s.as_ptr(), s.len(), out.as_mut_ptr(), out.len()) }
+    }
+
     pub fn paths(table: &Table, out: &mut [u8], ends: &mut [u32]) -> u64 {
-        unsafe {
-            ptp_paths(table.handles.as_ptr(), table.handles.len(), table.parents.as_ptr(), table.parents.len(),
-                      table.ends.as_ptr(), table.ends.len(), table.marks.as_ptr(), table.marks.len(), table.handles.len(),
-                      table.names.as_ptr(), table.names.len(), out.as_mut_ptr(), out.len(), ends.as_mut_ptr(), ends.len())
-        }
+        lent!(ptp_paths, table, as_ptr, out.as_mut_ptr(), out.len(), ends.as_mut_ptr(), ends.len())
     }
 
     pub fn collect(table: &mut Table, new_places: &mut [u16]) -> u64 {
-        unsafe {
-            ptp_table_collect(table.handles.as_mut_ptr(), table.handles.len(), table.parents.as_mut_ptr(), table.parents.len(),
-                              table.ends.as_mut_ptr(), table.ends.len(), table.marks.as_mut_ptr(), table.marks.len(), table.handles.len(),
-                              table.names.as_mut_ptr(), table.names.len(), new_places.as_mut_ptr(), new_places.len())
-        }
+        lent!(ptp_table_collect, table, as_mut_ptr, new_places.as_mut_ptr(), new_places.len())
     }
 
     pub fn accepted(answer: u64) -> usize {

@@ -104,4 +104,19 @@ mod containers {
                      - scripted(times, &data, &response, |camera| transfers(camera, &sent[..count], &mut room))
              })));
     }
+
+    /// A transaction of 1 KiB as packets and back.
+    pub fn network() {
+        let payload: Vec<u8> = (0..1024).map(|i| i as u8).collect();
+        let code = StandardCommandCode::GetObject;
+        let transaction = [container(1, code, &[17, 0, 0, 0]), container(2, code, &payload), container(3, StandardResponseCode::Ok, &[])].concat();
+        let (mut packets, mut back) = (vec![0u8; 2048], vec![0u8; 2048]);
+        let sent = accepted(to_network(&transaction, false, &mut packets));
+        let count = accepted(from_network(&packets[..sent], &mut back));
+        assert_eq!(&back[..count], &transaction[..]);
+        line("a transaction of 1 KiB to the network and back", 1, side(|| {
+            black_box(to_network(black_box(&transaction), false, &mut packets));
+            black_box(from_network(black_box(&packets[..sent]), &mut back));
+        }), None);
+    }
 }

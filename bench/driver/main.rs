@@ -14,8 +14,11 @@ fn main() {
     texts::texts();
     texts::night();
     containers::containers();
+    containers::network();
     trees::trees();
     trees::collecting();
+    trees::orders();
+    trees::links();
     names::names();
     values::values();
     settings::settings();

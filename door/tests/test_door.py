@@ -9,6 +9,7 @@ import subprocess
 import time
 import unittest
 
+from door.tests.place import by_default
 from door.tests.sandbox import ROOT, Sandbox, device, read_some, result
 
 CAT = "#!/bin/sh\nexec cat\n"
@@ -32,11 +33,11 @@ class Words(Door):
         self.assertEqual((status, said), (0, ""))
         for words in (["--help"], ["-h"], ["list", "--help"], ["wrong", "-h"]):
             self.assertEqual(box.run(*words, kit=False), (0, page, ""), words)
-        for command in ("list", "copy", "mend", "settings", "help"):
+        for command in ("list", "copy", "mend", "settings", "packets", "folders", "help"):
             self.assertIn(f"\nptp {command}", "\n" + page)
         for command in ("ask", "compare", "rust", "install", "bench", "wrong", "test"):
             self.assertIn(f"\n./ptp {command}", page)
-        for command in ("list", "copy", "mend", "settings", "ask", "compare", "rust", "install", "bench", "wrong", "test"):
+        for command in ("list", "copy", "mend", "settings", "packets", "folders", "ask", "compare", "rust", "install", "bench", "wrong", "test"):
             self.assertRegex(page, rf"\n {{10,}}(echo .* \| )?(\./)?ptp {command}")
 
     def refused(self, box, words, named):
@@ -66,6 +67,10 @@ class Words(Door):
         self.refused(box, ["settings", "--check"], "--check")
         self.refused(box, ["settings", there, "second"], "second")
         self.refused(box, ["settings", "missing.settings"], "missing.settings")
+        self.refused(box, ["packets", "--check"], "--check")
+        self.refused(box, ["packets", "missing.packets"], "missing.packets")
+        self.refused(box, ["folders", "--check"], "--check")
+        self.refused(box, ["folders", "missing.table"], "missing.table")
         for words, named in (("6 0x500d UINT32", "VENDOR"), ("6 0x500d UINT32 1 00417 more", "VENDOR"), ("x 0x500d UINT32 1", "x is no vendor"),
                              ("4294967296 1 UINT8 1", "vendor"), ("6 65536 UINT8 1", "property"), ("6 1 UINT7 1", "UINT7"), ("6 1 UINT8 256", "0 to 255"),
                              ("6 1 INT8 -129", "-128 to 127"), ("6 1 AUINT8 1,300", "300"), ("6 1 0x0000 1", "no value"), ("6 1 0x800a 1", "no value"),
@@ -214,6 +219,56 @@ class Rows(Door):
         self.assertIn("in the meantime", said)
 
 
+class Packets(Door):
+    # Answers each line with the next of these, and ends where there is none.
+    ASK = "#!/bin/sh\nexec 3<<'END'\n{}\nEND\nwhile read -r question; do echo \"$question\" >>asked; read -r answer <&3 || exit 0; echo \"$answer\"; done\n"
+
+    def shown(self, answers, data):
+        box = self.built(self.ASK.format("\n".join(answers)))
+        return box.run("packets", input=data), (box.folder / "asked").read_text().splitlines()
+
+    def test_a_line_a_packet(self):
+        answers = ["ok 6 1 4098 0 18 4 22", "ok OpenSession", "ok 9 7 5 20", "ok 10 7 12 3 15", "ok 12 7 12 2 14", "ok 7 40961 7 14 0 14", "none"]
+        text = "0 request OpenSession 0 4\n22 start-data 7 5\n42 data 7 3\n57 end-data 7 2\n71 response 0xa001 7 0\n"
+        shown, asked = self.shown(answers, bytes(85))
+        self.assertEqual(shown, (0, text, ""))
+        self.assertEqual((asked[1], asked[-1]), ("command-name 4098", "response-name 40961"))
+
+    def test_a_refusal_ends_it(self):
+        self.assertEqual(self.shown(["ok 9 7 5 20", "no 1 8"], bytes(30))[0], (1, "0 start-data 7 5\n20 refusal 1 8\n", ""))
+        self.assertEqual(self.shown(["no 20"], bytes(800))[0], (1, "0 refusal 20\n", ""))
+
+    def test_a_packet_is_asked_of_more_bytes_until_it_is_whole(self):
+        shown, asked = self.shown(["no 1 8", "ok 12 7 12 238 250"], bytes(250))
+        self.assertEqual(shown, (0, "0 end-data 7 238\n", ""))
+        self.assertEqual([len(line) for line in asked], [len("packet 0 ") + 2 * size for size in (64, 250)])
+
+    def test_what_is_too_long_or_fails_is_told(self):
+        self.assertEqual(self.shown(["?"], bytes(9))[0], (1, "", "ptp: the packet at byte 0 is too long to be asked\n"))
+        self.assertEqual(self.shown(["ok 9 7 5 20"], bytes(21))[0], (1, "", "ptp: ask ended inside its answer\n"))
+
+
+class Folders(Door):
+    def shown(self, answer, table=b"1 2 3 4 5 6"):
+        box = self.built(f"#!/bin/sh\nread -r question\necho \"$question\" >asked\necho '{answer}'\n")
+        return box.run("folders", input=table), (box.folder / "asked").read_text() if (box.folder / "asked").exists() else None
+
+    def test_a_line_a_path(self):
+        shown, asked = self.shown("ok 13 4142412f420a5c7f202fc3a97aa5 2,5*2,8,13,2779096485*1019", b"1 2 3 4 5 6\n")
+        self.assertEqual(shown, (0, "AB\nA/B\n\n\\x0a\\\\\\x7f\n /\u00e9z\n", ""))
+        self.assertEqual(asked, "folder-paths 1 2 3 4 5 6 1048576\n")
+
+    def test_a_table_without_any_name(self):
+        self.assertEqual(self.shown("ok 0 a5a5 0*2,2779096485*1022")[0], (0, "\n\n", ""))
+
+    def test_what_is_refused_or_no_table(self):
+        self.assertEqual(self.shown("no 11 a5a5")[0], (1, "refusal 11\n", ""))
+        self.assertEqual(self.shown("no 1 5 a5a5")[0], (1, "refusal 1 5\n", ""))
+        self.assertEqual(self.shown("no 9 a5a5")[0], (1, "", "ptp: the paths have more than 1,048,576 bytes\n"))
+        for table, answer in ((b"1 2", "?"), (b"1 2\n3\n", "ok"), (b"\xff", "ok")):
+            self.assertEqual(self.shown(answer, table)[0], (1, "", "ptp: the file is not one line that tells a table\n"))
+
+
 class Shown(Door):
     SLOW = "#!/bin/sh\nhead -c 1000000\nsleep 3\ncat\necho 'left out 0 records 0 bytes' >&2\n"
 
@@ -241,7 +296,7 @@ class Shown(Door):
     def test_the_pages_tell_of_the_same_commands(self):
         help_page = self.sandbox().run("help", kit=False)[1]
         manual, readme = (ROOT / "docs" / "ptp.1").read_text().replace("\\", ""), (ROOT / "README.md").read_text()
-        for command in ("list", "copy", "mend", "settings", "help"):
+        for command in ("list", "copy", "mend", "settings", "packets", "folders", "help"):
             self.assertIn(f"\nptp {command}", "\n" + help_page)
             self.assertIn(f"\n.B ptp {command}\n", manual)
             self.assertIn(f"`./ptp {command}", readme)
@@ -298,7 +353,8 @@ class Following(Door):
         box = self.built()
         grows = box.folder / "grows"
         grows.write_bytes(b"first ")
-        started = subprocess.Popen([box.home / "ptp", "list", "--follow", grows], stdout=subprocess.PIPE, start_new_session=True)
+        started = subprocess.Popen([box.home / "ptp", "list", "--follow", grows], stdout=subprocess.PIPE, stderr=subprocess.DEVNULL,
+                                   start_new_session=True, preexec_fn=by_default)
         self.addCleanup(started.stdout.close)
         self.assertEqual(read_some(started.stdout), b"first ")
         with grows.open("ab") as more:

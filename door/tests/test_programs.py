@@ -61,6 +61,36 @@ class Programs(unittest.TestCase):
         report = f"kept 47 records {len(day)} bytes, dropped 0 stretches 0 bytes\n".encode()
         self.assertEqual((run.returncode, run.stdout, run.stderr), (0, day, report))
 
+    def test_every_table_is_shown_folder_by_folder(self):
+        """And one whose root has ended is refused."""
+        found = sorted(EXAMPLES.glob("*.table"))
+        self.assertTrue(found)
+        for path in found:
+            text, words = path.with_suffix(".shown").read_text(), path.read_text().split(" ")
+            self.assertEqual(result([PTP, "folders", path], env=NO_KIT), (0, text, ""), path)
+            self.assertEqual(result([PTP, "folders"], input=" ".join(words).encode(), cwd="/"), (0, text, ""), path)
+            words[3] = "0*1024"
+            self.assertEqual(result([PTP, "folders"], input=" ".join(words).encode()), (1, "refusal 11\n", ""), path)
+
+    def test_every_row_of_packets_is_shown(self):
+        """And a byte behind it is refused where it stands."""
+        found = sorted(EXAMPLES.glob("*.packets"))
+        self.assertTrue(found)
+        for path in found:
+            text, data = path.with_suffix(".shown").read_text(), path.read_bytes()
+            self.assertEqual(result([PTP, "packets", path], env=NO_KIT), (0, text, ""), path)
+            self.assertEqual(result([PTP, "packets"], input=data + b"\x05", cwd="/"), (1, f"{text}{len(data)} refusal 1 0\n", ""), path)
+
+    def test_packets_of_many_bytes_and_of_many(self):
+        """Those that fill a question's line, one byte more, and very many."""
+        def data_of(size):
+            return (12 + size).to_bytes(4, "little") + b"\x0a\0\0\0" + bytes(4 + size)
+
+        self.assertEqual(result([PTP, "packets"], input=data_of(590_000) + data_of(1)), (0, "0 data 0 590000\n590012 data 0 1\n", ""))
+        self.assertEqual(result([PTP, "packets"], input=data_of(600_000)), (1, "", "ptp: the packet at byte 0 is too long to be asked\n"))
+        shown = "".join(f"{12 * place} data 0 0\n" for place in range(10_000))
+        self.assertEqual(result([PTP, "packets"], input=data_of(0) * 10_000), (0, shown, ""))
+
     def test_every_row_of_settings_is_shown(self):
         found = sorted(EXAMPLES.glob("*.settings"))
         self.assertTrue(found)

@@ -1,5 +1,5 @@
 //! A card from which frames are deleted: objects are added, frames deleted, and one more is added, for which it collects first. The paths after
-//! each.
+//! each; last the folder view.
 //!
 //! c/card.c is the same in C.
 use ptp_proved::{write_text, Added, ObjectTable, Objects, Refusal};
@@ -62,10 +62,27 @@ fn delete(objects: &mut Objects, handle: u32) -> Result<(), Refusal> {
 
 fn show_paths(objects: &Objects) -> Result<(), Refusal> {
     let (mut text, mut ends) = ([0; TEXT_ROOM], [0; ObjectTable::PLACES]);
-    for path in objects.table().paths(&mut text, &mut ends)? {
+    for path in objects.paths(&mut text, &mut ends)? {
         println!("path /{path}");
     }
     Ok(())
+}
+
+// How deep a place is shown is the number of its parents; its name is the end of its path.
+fn show_folders(objects: &Objects) -> Result<(), Refusal> {
+    let (mut text, mut ends, mut places) = ([0; TEXT_ROOM], [0; ObjectTable::PLACES], [0; ObjectTable::PLACES]);
+    let paths = objects.folder_paths(&mut text, &mut ends)?;
+    for (&place, path) in objects.folders(&mut places)?.iter().zip(paths) {
+        println!("{:1$}{2}", "", 2 * depth(objects, place), path.rsplit('/').next().unwrap_or(path));
+    }
+    Ok(())
+}
+
+fn depth(objects: &Objects, place: u16) -> usize {
+    match place {
+        0 => 0,
+        _ => 1 + depth(objects, objects.table().parents[usize::from(place)]),
+    }
 }
 
 fn fill_card() -> Result<(), Refusal> {
@@ -76,7 +93,8 @@ fn fill_card() -> Result<(), Refusal> {
     DELETED.iter().try_for_each(|&handle| delete(&mut objects, handle))?;
     show_paths(&objects)?;
     add(&mut objects, LATER)?;
-    show_paths(&objects)
+    show_paths(&objects)?;
+    show_folders(&objects)
 }
 
 fn main() -> ExitCode {

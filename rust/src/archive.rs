@@ -8,6 +8,7 @@
 //! - All numbers are plain: every bit pattern that comes back is one that its type has.
 #![allow(unsafe_code)]
 use crate::changes::ObjectTableMut;
+use crate::links::{Links, LinksMut};
 use crate::refusal::Refusal;
 use crate::tree::ObjectTable;
 
@@ -68,6 +69,9 @@ extern "C" {
         counts_len: usize,
     ) -> i64;
     fn ptp_write_ending(records: u64, place: u64, out: *mut u8, out_len: usize) -> i64;
+    fn ptp_read_packet(s: *const u8, s_len: usize, at: usize, out: *mut u64, out_len: usize) -> i64;
+    fn ptp_to_network(s: *const u8, s_len: usize, to_camera: bool, out: *mut u8, out_len: usize) -> i64;
+    fn ptp_from_network(s: *const u8, s_len: usize, out: *mut u8, out_len: usize) -> i64;
     fn ptp_response_place(code: u16) -> i64;
     fn ptp_command_place(code: u16) -> i64;
     #[cfg(test)] // what it gives stands in code.rs
@@ -89,6 +93,7 @@ extern "C" {
         out_len: usize,
     ) -> i64;
     fn ptp_read_record(s: *const u8, s_len: usize, out: *mut u64, out_len: usize) -> i64;
+    fn ptp_read_recording(s: *const u8, s_len: usize, out: *mut u64, out_len: usize) -> i64;
     fn ptp_copy_recording(s: *const u8, s_len: usize, out: *mut u8, out_len: usize, left: *mut u64, left_len: usize) -> i64;
     fn ptp_mend_recording(
         s: *const u8,
@@ -192,6 +197,155 @@ extern "C" {
         out_ends: *mut u32,
         out_ends_len: usize,
     ) -> i64;
+    fn ptp_folders(
+        handles: *const u32,
+        handles_len: usize,
+        parents: *const u16,
+        parents_len: usize,
+        ends: *const u32,
+        ends_len: usize,
+        marks: *const u8,
+        marks_len: usize,
+        count: usize,
+        names: *const u8,
+        names_len: usize,
+        places: *mut u16,
+        places_len: usize,
+    ) -> i64;
+    fn ptp_folder_paths(
+        handles: *const u32,
+        handles_len: usize,
+        parents: *const u16,
+        parents_len: usize,
+        ends: *const u32,
+        ends_len: usize,
+        marks: *const u8,
+        marks_len: usize,
+        count: usize,
+        names: *const u8,
+        names_len: usize,
+        out: *mut u8,
+        out_len: usize,
+        out_ends: *mut u32,
+        out_ends_len: usize,
+    ) -> i64;
+    fn ptp_table_link(
+        handles: *const u32,
+        handles_len: usize,
+        parents: *const u16,
+        parents_len: usize,
+        ends: *const u32,
+        ends_len: usize,
+        marks: *const u8,
+        marks_len: usize,
+        count: usize,
+        names: *const u8,
+        names_len: usize,
+        first: *mut u16,
+        first_len: usize,
+        next: *mut u16,
+        next_len: usize,
+    ) -> i64;
+    fn ptp_linked_walk(
+        handles: *const u32,
+        handles_len: usize,
+        parents: *const u16,
+        parents_len: usize,
+        ends: *const u32,
+        ends_len: usize,
+        marks: *const u8,
+        marks_len: usize,
+        count: usize,
+        names: *const u8,
+        names_len: usize,
+        first: *const u16,
+        first_len: usize,
+        next: *const u16,
+        next_len: usize,
+        places: *mut u16,
+        places_len: usize,
+    ) -> i64;
+    fn ptp_linked_paths(
+        handles: *const u32,
+        handles_len: usize,
+        parents: *const u16,
+        parents_len: usize,
+        ends: *const u32,
+        ends_len: usize,
+        marks: *const u8,
+        marks_len: usize,
+        count: usize,
+        names: *const u8,
+        names_len: usize,
+        first: *const u16,
+        first_len: usize,
+        next: *const u16,
+        next_len: usize,
+        out: *mut u8,
+        out_len: usize,
+        out_ends: *mut u32,
+        out_ends_len: usize,
+    ) -> i64;
+    fn ptp_linked_delete(
+        handles: *const u32,
+        handles_len: usize,
+        parents: *const u16,
+        parents_len: usize,
+        ends: *const u32,
+        ends_len: usize,
+        marks: *mut u8,
+        marks_len: usize,
+        count: usize,
+        names: *const u8,
+        names_len: usize,
+        first: *mut u16,
+        first_len: usize,
+        next: *mut u16,
+        next_len: usize,
+        place: usize,
+    ) -> i64;
+    fn ptp_linked_collect(
+        handles: *mut u32,
+        handles_len: usize,
+        parents: *mut u16,
+        parents_len: usize,
+        ends: *mut u32,
+        ends_len: usize,
+        marks: *mut u8,
+        marks_len: usize,
+        count: usize,
+        names: *mut u8,
+        names_len: usize,
+        first: *mut u16,
+        first_len: usize,
+        next: *mut u16,
+        next_len: usize,
+        new_places: *mut u16,
+        new_places_len: usize,
+    ) -> i64;
+    fn ptp_linked_add(
+        handles: *mut u32,
+        handles_len: usize,
+        parents: *mut u16,
+        parents_len: usize,
+        ends: *mut u32,
+        ends_len: usize,
+        marks: *mut u8,
+        marks_len: usize,
+        count: usize,
+        names: *mut u8,
+        names_len: usize,
+        first: *mut u16,
+        first_len: usize,
+        next: *mut u16,
+        next_len: usize,
+        new_places: *mut u16,
+        new_places_len: usize,
+        parent: usize,
+        handle: u32,
+        name: *const u8,
+        name_len: usize,
+    ) -> i64;
     fn ptp_table_delete(
         handles: *const u32,
         handles_len: usize,
@@ -249,7 +403,7 @@ fn told(answer: i64) -> Result<usize, Refusal> {
         return Ok(answer as usize);
     }
     let refusal = answer.unsigned_abs();
-    Err(Refusal::from_number(refusal % 256, (refusal / 256) as usize).expect("the archive refuses by 1 to 19"))
+    Err(Refusal::from_number(refusal % 256, (refusal / 256) as usize).expect("the archive refuses by 1 to 22"))
 }
 
 // The farthest place that the archive tells. Only one that the caller gave can be as far, where nothing can be read: then the refusal is of it.
@@ -369,6 +523,18 @@ pub(crate) fn read_container(s: &[u8], at: usize) -> Result<[u64; 6], Refusal> {
     read_at(ptp_read_container, s, at)
 }
 
+pub(crate) fn read_packet(s: &[u8], at: usize) -> Result<[u64; 8], Refusal> {
+    read_at(ptp_read_packet, s, at)
+}
+
+pub(crate) fn to_network(s: &[u8], to_camera: bool, out: &mut [u8]) -> Result<usize, Refusal> {
+    told(unsafe { ptp_to_network(s.as_ptr(), s.len(), to_camera, out.as_mut_ptr(), out.len()) })
+}
+
+pub(crate) fn from_network(s: &[u8], out: &mut [u8]) -> Result<usize, Refusal> {
+    write(ptp_from_network, s, out)
+}
+
 pub(crate) fn write_container(kind: u16, code: u16, number: u32, payload: &[u8], out: &mut [u8]) -> Result<usize, Refusal> {
     told(unsafe { ptp_write_container(kind, code, number, payload.as_ptr(), payload.len(), out.as_mut_ptr(), out.len()) })
 }
@@ -433,6 +599,11 @@ unsafe extern "C" fn book_prop_info(s: *const u8, s_len: usize, out: *mut u64, o
 
 pub(crate) fn read_record(s: &[u8]) -> Result<[u64; 9], Refusal> {
     read(ptp_read_record, s)
+}
+
+/// How many records.
+pub(crate) fn read_recording(s: &[u8]) -> Result<[u64; 1], Refusal> {
+    read(ptp_read_recording, s)
 }
 
 /// The bytes written; then the records and the bytes that were left out.
@@ -614,6 +785,106 @@ pub(crate) fn paths(table: &ObjectTable<'_>, out: &mut [u8], out_ends: &mut [u32
     of_table!(ptp_paths, table, as_ptr, table.count, out.as_mut_ptr(), out.len(), out_ends.as_mut_ptr(), out_ends.len())
 }
 
+pub(crate) fn folders(table: &ObjectTable<'_>, places: &mut [u16]) -> Result<usize, Refusal> {
+    of_table!(ptp_folders, table, as_ptr, table.count, places.as_mut_ptr(), places.len())
+}
+
+pub(crate) fn folder_paths(table: &ObjectTable<'_>, out: &mut [u8], out_ends: &mut [u32]) -> Result<usize, Refusal> {
+    of_table!(ptp_folder_paths, table, as_ptr, table.count, out.as_mut_ptr(), out.len(), out_ends.as_mut_ptr(), out_ends.len())
+}
+
+// Of a table that keeps its links, which come behind it, lent as it is.
+macro_rules! of_linked {
+    ($function:ident, $table:ident, $links:ident, $pointer:ident, $count:expr, $($more:expr),+) => {
+        of_table!(
+            $function,
+            $table,
+            $pointer,
+            $count,
+            $links.first.$pointer(),
+            $links.first.len(),
+            $links.next.$pointer(),
+            $links.next.len(),
+            $($more),+
+        )
+    };
+}
+
+/// The count.
+pub(crate) fn table_link(table: &ObjectTable<'_>, links: &mut LinksMut<'_>) -> Result<usize, Refusal> {
+    of_table!(
+        ptp_table_link,
+        table,
+        as_ptr,
+        table.count,
+        links.first.as_mut_ptr(),
+        links.first.len(),
+        links.next.as_mut_ptr(),
+        links.next.len()
+    )
+}
+
+pub(crate) fn linked_walk(table: &ObjectTable<'_>, links: Links<'_>, places: &mut [u16]) -> Result<usize, Refusal> {
+    of_linked!(ptp_linked_walk, table, links, as_ptr, table.count, places.as_mut_ptr(), places.len())
+}
+
+pub(crate) fn linked_paths(
+    table: &ObjectTable<'_>,
+    links: Links<'_>,
+    out: &mut [u8],
+    out_ends: &mut [u32],
+) -> Result<usize, Refusal> {
+    of_linked!(
+        ptp_linked_paths,
+        table,
+        links,
+        as_ptr,
+        table.count,
+        out.as_mut_ptr(),
+        out.len(),
+        out_ends.as_mut_ptr(),
+        out_ends.len()
+    )
+}
+
+/// The count, which stays.
+pub(crate) fn linked_delete(table: &mut ObjectTableMut<'_>, links: &mut LinksMut<'_>, place: usize) -> Result<usize, Refusal> {
+    of_linked!(ptp_linked_delete, table, links, as_mut_ptr, *table.count, place)
+}
+
+/// The new count.
+pub(crate) fn linked_collect(
+    table: &mut ObjectTableMut<'_>,
+    links: &mut LinksMut<'_>,
+    new_places: &mut [u16],
+) -> Result<usize, Refusal> {
+    of_linked!(ptp_linked_collect, table, links, as_mut_ptr, *table.count, new_places.as_mut_ptr(), new_places.len())
+}
+
+/// The object's place.
+pub(crate) fn linked_add(
+    table: &mut ObjectTableMut<'_>,
+    links: &mut LinksMut<'_>,
+    new_places: &mut [u16],
+    parent: usize,
+    handle: u32,
+    name: &[u8],
+) -> Result<usize, Refusal> {
+    of_linked!(
+        ptp_linked_add,
+        table,
+        links,
+        as_mut_ptr,
+        *table.count,
+        new_places.as_mut_ptr(),
+        new_places.len(),
+        parent,
+        handle,
+        name.as_ptr(),
+        name.len()
+    )
+}
+
 /// The count, which stays.
 pub(crate) fn table_delete(table: &mut ObjectTableMut<'_>, place: usize) -> Result<usize, Refusal> {
     of_table!(ptp_table_delete, table, as_mut_ptr, *table.count, place)
@@ -675,8 +946,14 @@ mod tests {
         try_rooms(crate_prop_info, &[0; 64], 16);
         try_rooms(book_prop_info, &[0; 64], 16);
         try_rooms(ptp_read_record, &[6, 0, 0, 0, 3, 0], 9);
+        try_rooms(ptp_read_recording, &[6, 0, 0, 0, 3, 0], 1);
+        try_rooms(first_packet, &[14, 0, 0, 0, 7, 0, 0, 0, 1, 32, 0, 0, 0, 0], 8);
         try_rooms(first_setting, &ENTRY, 9);
         try_rooms(found_setting, &ENTRY, 4);
+    }
+
+    unsafe extern "C" fn first_packet(s: *const u8, s_len: usize, out: *mut u64, out_len: usize) -> i64 {
+        ptp_read_packet(s, s_len, 0, out, out_len)
     }
 
     // An entry for any camera, without a value: alone in its row it is the first, and what is found.
@@ -731,6 +1008,8 @@ mod tests {
             crate_prop_info,
             book_prop_info,
             ptp_read_record,
+            ptp_read_recording,
+            first_packet,
             first_setting,
             found_setting,
         ] {

@@ -20,8 +20,10 @@ mod array;
 mod changes;
 mod code;
 mod dataset;
+mod links;
 mod listing;
 mod mending;
+mod network;
 mod objects;
 mod pad;
 mod payload;
@@ -40,15 +42,17 @@ pub use array::{Items, PtpArray, PtpItem};
 pub use changes::{Added, ObjectTableMut};
 pub use code::{CommandCode, ResponseCode, StandardCommandCode, StandardResponseCode};
 pub use dataset::{PtpDeviceInfo, PtpObjectInfo, PtpStorageInfo};
+pub use links::{Links, LinksMut};
 pub use listing::{list_recording, list_window, write_ending, write_heading, Listed, Tally};
 pub use mending::{mend_recording, Dropped, Mended};
+pub use network::{from_network, read_packet, to_network, DataDirection, PtpPacket};
 pub use objects::Objects;
 pub use payload::{object_count, object_handles, storage_ids, storage_info};
 pub use property::{newer_value, tidy_property, Newer, PropLayout, PtpFormData, PtpPropInfo, PtpValues, Values};
 pub use reader::{item, unit, PtpReader};
 pub use record::{
-    copy_recording, read_container, read_record, write_container, write_record, Copied, PtpContainer, PtpContainerType, PtpRecord,
-    RecordKind, Recorder,
+    copy_recording, read_container, read_record, read_recording, records, write_container, write_record, Copied, PtpContainer,
+    PtpContainerType, PtpRecord, RecordKind, Recorder, Records,
 };
 pub use refusal::Refusal;
 pub use session::{find_answer, Answer, Made, Session};

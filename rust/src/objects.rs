@@ -1,11 +1,12 @@
 //! An object table of one's own.
 use crate::changes::{Added, ObjectTableMut};
+use crate::links::{Links, LinksMut};
 use crate::reader::PtpReader;
 use crate::refusal::Refusal;
-use crate::tree::ObjectTable;
+use crate::tree::{ObjectTable, Paths};
 use core::fmt;
 
-/// The objects of a card: up to 1,024 of them, with their names in bytes that are lent. It is 13 KB, and nothing is allocated.
+/// The objects of a card: up to 1,024 of them, with their names in bytes that are lent. It is 17 KB, and nothing is allocated.
 ///
 /// An object is added below another one, and deleted with all that stand below it. What deleted objects had is used again: their places and
 /// their name bytes. The objects that stay keep their handles and their paths; their places change only where it collects, and are told then.
@@ -27,6 +28,9 @@ pub struct Objects<'n> {
     ends: [u32; ObjectTable::PLACES],
     marks: [u8; ObjectTable::PLACES],
     new_places: [u16; ObjectTable::PLACES],
+    // the links of the table: what is asked and changed goes along them
+    first: [u16; ObjectTable::PLACES],
+    next: [u16; ObjectTable::PLACES],
     count: usize,
     names: &'n mut [u8],
 }
@@ -48,6 +52,8 @@ impl<'n> Objects<'n> {
             ends: [0; ObjectTable::PLACES],
             marks: [0; ObjectTable::PLACES],
             new_places: [0; ObjectTable::PLACES],
+            first: [0; ObjectTable::PLACES],
+            next: [0; ObjectTable::PLACES],
             count: 1,
             names,
         };
@@ -61,21 +67,42 @@ impl<'n> Objects<'n> {
     /// too few name bytes: [`Added::others_moved`] tells. Refusals, which change nothing: PLACE for a parent that is not live; END, TEXT, TRAIL of
     /// the name; TAKEN with 1,024 live objects; ROOM where the names of the live objects and the new one do not fit.
     pub fn add(&mut self, parent: usize, handle: u32, name: &[u8]) -> Result<Added<'_>, Refusal> {
-        let (mut table, new_places) = self.parts();
-        table.add(parent, handle, name, new_places)
+        let (mut table, mut links, new_places) = self.parts();
+        table.linked_add(&mut links, parent, handle, name, new_places)
     }
 
     /// Deletes the object at a place, and all that stand below it. The others keep their places. Refusal, which changes nothing: PLACE for the
     /// root, and for a place where no live object stands.
     pub fn delete(&mut self, place: usize) -> Result<(), Refusal> {
-        self.parts().0.delete(place)
+        let (mut table, mut links, _) = self.parts();
+        table.linked_delete(&mut links, place)
     }
 
     /// Moves the live objects down in their order, into the places and name bytes of deleted ones. It gives for each place that was used the
     /// new one, [`GONE`](ObjectTable::GONE) for none. [`add`](Self::add) does so itself where it must.
     pub fn collect(&mut self) -> &[u16] {
-        let (mut table, new_places) = self.parts();
-        table.collect(new_places).expect(KEPT)
+        let (mut table, mut links, new_places) = self.parts();
+        table.linked_collect(&mut links, new_places).expect(KEPT)
+    }
+
+    /// The places of the objects in walk order: [`ObjectTable::walk`]. Refusal: ROOM.
+    pub fn walk<'o>(&self, places: &'o mut [u16]) -> Result<&'o [u16], Refusal> {
+        self.table().linked_walk(self.links(), places)
+    }
+
+    /// All paths in walk order: [`ObjectTable::paths`]. Refusal: ROOM for either output.
+    pub fn paths<'o>(&self, out: &'o mut [u8], out_ends: &'o mut [u32]) -> Result<Paths<'o>, Refusal> {
+        self.table().linked_paths(self.links(), out, out_ends)
+    }
+
+    /// The places of the objects as a folder view: [`ObjectTable::folders`]. Refusal: ROOM.
+    pub fn folders<'o>(&self, places: &'o mut [u16]) -> Result<&'o [u16], Refusal> {
+        self.table().folders(places)
+    }
+
+    /// All paths of the folder view: [`ObjectTable::folder_paths`]. Refusal: ROOM for either output.
+    pub fn folder_paths<'o>(&self, out: &'o mut [u8], out_ends: &'o mut [u32]) -> Result<Paths<'o>, Refusal> {
+        self.table().folder_paths(out, out_ends)
     }
 
     /// The place of the live object of this handle; of several, the first.
@@ -95,9 +122,13 @@ impl<'n> Objects<'n> {
         ObjectTable { handles, parents, ends, marks, count: *count, names }
     }
 
-    fn parts(&mut self) -> (ObjectTableMut<'_>, &mut [u16]) {
-        let Objects { handles, parents, ends, marks, new_places, count, names } = self;
-        (ObjectTableMut { handles, parents, ends, marks, count, names }, new_places)
+    fn links(&self) -> Links<'_> {
+        Links { first: &self.first, next: &self.next }
+    }
+
+    fn parts(&mut self) -> (ObjectTableMut<'_>, LinksMut<'_>, &mut [u16]) {
+        let Objects { handles, parents, ends, marks, new_places, first, next, count, names } = self;
+        (ObjectTableMut { handles, parents, ends, marks, count, names }, LinksMut { first, next }, new_places)
     }
 }
 

@@ -219,6 +219,56 @@ pub fn read_record(s: &[u8]) -> Result<(PtpRecord<'_>, usize), Refusal> {
     Ok((PtpRecord { kind, body, container }, taken))
 }
 
+/// How many records a recording has, from its first byte to its last. It can be cut into records in one way only, and the same records in the
+/// same order are the same bytes. Refusals: those of the first refused record, an END told by its place in `s`.
+pub fn read_recording(s: &[u8]) -> Result<usize, Refusal> {
+    archive::read_recording(s).map(|[count]| count as usize)
+}
+
+/// The records of a whole recording, which is read to its end first. Refusals: those of [`read_recording`].
+///
+/// ```
+/// let day = b"\x07\0\0\0\x03\0A\x06\0\0\0\x03\0";
+/// let bodies: Vec<_> = ptp_proved::records(day)?.map(|record| record.body).collect();
+/// assert_eq!(bodies, [&b"A"[..], b""]);
+/// # Ok::<(), ptp_proved::Refusal>(())
+/// ```
+pub fn records(s: &[u8]) -> Result<Records<'_>, Refusal> {
+    Ok(Records { left: read_recording(s)?, rest: s })
+}
+
+/// A recording's records, one after the other; one step reads one record.
+///
+/// ```
+/// let mut each = ptp_proved::records(b"\x06\0\0\0\x03\0")?;
+/// assert_eq!((each.len(), each.next().is_some(), each.next()), (1, true, None));
+/// # Ok::<(), ptp_proved::Refusal>(())
+/// ```
+#[derive(Clone, Debug)]
+pub struct Records<'a> {
+    left: usize,
+    rest: &'a [u8],
+}
+
+impl<'a> Iterator for Records<'a> {
+    type Item = PtpRecord<'a>;
+
+    fn next(&mut self) -> Option<PtpRecord<'a>> {
+        self.left = self.left.checked_sub(1)?;
+        let (record, taken) = read_record(self.rest).expect("a record of an accepted recording");
+        self.rest = &self.rest[taken..];
+        Some(record)
+    }
+
+    fn size_hint(&self) -> (usize, Option<usize>) {
+        (self.left, Some(self.left))
+    }
+}
+
+impl ExactSizeIterator for Records<'_> {}
+
+impl core::iter::FusedIterator for Records<'_> {}
+
 /// A recording without its notes, and how many records and bytes, headers included, were left out.
 ///
 /// ```

@@ -2,7 +2,7 @@
 use crate::pad::padded;
 use core::fmt;
 
-/// The nineteen refusals. Where several conditions hold, a call gives the first in its own order.
+/// The twenty-two refusals. Where several conditions hold, a call gives the first in its own order.
 ///
 /// What could not be read is told with `at`, the place of the first byte of the field that failed: an array's count, a string's count byte,
 /// a list's failing value. It counts in the bytes that were lent; of an object's name in that name.
@@ -61,16 +61,42 @@ pub enum Refusal {
     FULL,
     /// 1,024 live objects are held
     TAKEN,
+    /// a packet's kind is none of the five that a transaction has
+    PACKET,
+    /// a packet's length is not of whole fields, or the data is not as long as announced
+    FIELDS,
+    /// containers or packets are not one transaction
+    TRANSACTION,
 }
 
 use Refusal::*;
 
 // Those without a place, from 3 on.
-const PLAIN: [Refusal; 17] =
-    [TRAIL, KIND, LENGTH, SIZE, TID, NOPHASE, ROOM, COUNT, TABLE, PLACE, RECORD, LONG, TYPE, VALUE, EDITION, FULL, TAKEN];
+const PLAIN: [Refusal; 20] = [
+    TRAIL,
+    KIND,
+    LENGTH,
+    SIZE,
+    TID,
+    NOPHASE,
+    ROOM,
+    COUNT,
+    TABLE,
+    PLACE,
+    RECORD,
+    LONG,
+    TYPE,
+    VALUE,
+    EDITION,
+    FULL,
+    TAKEN,
+    PACKET,
+    FIELDS,
+    TRANSACTION,
+];
 
 impl Refusal {
-    /// Its number, 1 to 19.
+    /// Its number, 1 to 22.
     pub fn number(self) -> u8 {
         match self {
             END { .. } => 1,
@@ -109,6 +135,9 @@ impl Refusal {
             EDITION => "a setting's kind is not one of the edition",
             FULL => "256 settings with other keys are held",
             TAKEN => "1,024 live objects are held",
+            PACKET => "a packet's kind is none of a transaction's",
+            FIELDS => "a packet is not of whole fields, or the data not as long as announced",
+            TRANSACTION => "this is not one transaction",
         }
     }
 

@@ -64,7 +64,21 @@ impl ObjectTable<'_> {
     /// as its name by [`utf8_len`](crate::utf8_len), any other as its parent's, a slash where that is not empty, and its name.
     pub fn paths<'o>(&self, out: &'o mut [u8], out_ends: &'o mut [u32]) -> Result<Paths<'o>, Refusal> {
         let count = archive::paths(self, out, out_ends)?;
-        Ok(Paths { bytes: &out[..count], ends: &out_ends[..self.live_count()] })
+        Ok(Paths::new(&out[..count], &out_ends[..self.live_count()]))
+    }
+
+    /// The places of the live objects as a folder view: each folder, then all below it, before the next one at its level; siblings in rising
+    /// places. They are the walk's, in another order. How deep a place is shown is the number of its parents. Refusals: those of the walk. A chain
+    /// of 1,024 objects takes 126,000 bytes of stack.
+    pub fn folders<'o>(&self, places: &'o mut [u16]) -> Result<&'o [u16], Refusal> {
+        let count = archive::folders(self, places)?;
+        Ok(&places[..count])
+    }
+
+    /// The paths of all live objects in that order: the same paths as [`paths`](Self::paths), which need the same room. Refusals: those of `paths`.
+    pub fn folder_paths<'o>(&self, out: &'o mut [u8], out_ends: &'o mut [u32]) -> Result<Paths<'o>, Refusal> {
+        let count = archive::folder_paths(self, out, out_ends)?;
+        Ok(Paths::new(&out[..count], &out_ends[..self.live_count()]))
     }
 
     // Of the places that are used.
@@ -73,7 +87,7 @@ impl ObjectTable<'_> {
     }
 }
 
-/// The paths of an object table, in walk order.
+/// The paths of an object table, in the order of its walk or of its folder view.
 ///
 /// ```
 /// use ptp_proved::Objects;
@@ -91,6 +105,10 @@ pub struct Paths<'o> {
 }
 
 impl<'o> Paths<'o> {
+    pub(crate) fn new(bytes: &'o [u8], ends: &'o [u32]) -> Paths<'o> {
+        Paths { bytes, ends }
+    }
+
     /// How many there are: one for each live object.
     pub fn len(&self) -> usize {
         self.ends.len()
@@ -111,7 +129,7 @@ impl<'o> Paths<'o> {
         self.ends
     }
 
-    /// The path of the `n`-th object of the walk, from 0.
+    /// The path of the `n`-th object of the walk or the view, from 0.
     pub fn get(&self, n: usize) -> Option<&'o str> {
         let end = *self.ends.get(n)? as usize;
         let start = if n == 0 { 0 } else { self.ends[n - 1] as usize };

@@ -6,17 +6,24 @@ use mathlib.Core.List.{List, _∷_, _++_}
 use Prim.Native.Nat.{ℕ}
 use lib.ListN.{length, drop}
 use Rattle.layout.specs.Answer.{Answer, got, refused, means}
+use Rattle.layout.specs.Bytes.{Bytes}
 use Rattle.layout.specs.Written.{Said, leftOf, saysWritten}
 use Rattle.layout.specs.declared.Written.{Written}
 use Rattle.layout.specs.declared.Written.the-variants as written
 use Rattle.recording.specs.Copied.{copySaid}
 use Rattle.session.specs.Transaction.{turn}
+use Rattle.tree.specs.Links.{Keeping, Linked}
 use Rattle.tree.specs.Path.{Walked, AllPaths}
+use Rattle.tree.specs.Says.{saysChecked}
 use Rattle.tree.specs.Table.{Table}
-use Rattle.tree.proofs.laws.Unique.{one-walked, one-paths}
+use Rattle.tree.specs.View.{Viewed, ViewPaths}
+use Rattle.tree.specs.declared.Checked.{Checked}
+use Rattle.tree.specs.declared.Checked.the-variants as checked
+use Rattle.tree.proofs.laws.Unique.{one-walked, one-paths, one-viewed, one-view-paths, one-linked, one-walk-linked, one-paths-linked}
 use Rattle.shots.specs.Added.{Adds}
 use Rattle.shots.specs.Collected.{Collected}
-use Rattle.shots.proofs.laws.Unique.{one-collected, one-added}
+use Rattle.shots.specs.Linked.{DeletedLinked, CollectedLinked, AddsLinked}
+use Rattle.shots.proofs.laws.Unique.{one-collected, one-added, one-deleted-linked, one-collected-linked, one-added-linked}
 use Rattle.abi.specs.Answered.{word, Tells, Gives}
 use Rattle.abi.specs.Copied.{unlessRefused, CopiesInto}
 use Rattle.listing.specs.Window.{Windowed}
@@ -56,6 +63,45 @@ one-paths-given t out ends o o′ e e′ r s x y =
     let all = one-paths t out ends (spoken (x .answer)) (spoken (y .answer)) o o′ e e′ (rw says-spoken (x .allows)) (rw says-spoken (y .allows)) in
     (same-word x y (spoken-one (x .answer) (y .answer) (all .0)), all .1, all .2)
 
+pub one-view-given : (t : Table) (old new new′ : List ℕ) (r s : ℕ)
+    → Tells (λ a. Viewed t old a new) r → Tells (λ a. Viewed t old a new′) s → (r ≡ s) × (new ≡ new′)
+one-view-given t old new new′ r s x y =
+    let both = one-viewed t old new new′ (spoken (x .answer)) (spoken (y .answer)) (rw says-spoken (x .allows)) (rw says-spoken (y .allows)) in
+    (same-word x y (spoken-one (x .answer) (y .answer) (both .0)), both .1)
+
+pub one-view-paths-given : (t : Table) (out ends o o′ e e′ : List ℕ) (r s : ℕ)
+    → Tells (λ a. ViewPaths t out ends a o e) r → Tells (λ a. ViewPaths t out ends a o′ e′) s → (r ≡ s) × (o ≡ o′) × (e ≡ e′)
+one-view-paths-given t out ends o o′ e e′ r s x y =
+    let all = one-view-paths t out ends (spoken (x .answer)) (spoken (y .answer)) o o′ e e′ (rw says-spoken (x .allows)) (rw says-spoken (y .allows)) in
+    (same-word x y (spoken-one (x .answer) (y .answer) (all .0)), all .1, all .2)
+
+pub one-walk-linked-given : (t : Table) {fs ns old new new′ : List ℕ} {r s : ℕ}
+    → Tells (λ a. Keeping t fs ns a (Walked t old a new) (new ≡ old)) r → Tells (λ a. Keeping t fs ns a (Walked t old a new′) (new′ ≡ old)) s → (r ≡ s) × (new ≡ new′)
+one-walk-linked-given t {fs} {ns} {old} {new} {new′} x y =
+    let both = one-walk-linked t {fs = fs} {ns = ns} {old = old} {new = new} {new′ = new′} (spoken (x .answer)) (spoken (y .answer)) (rw says-spoken (x .allows)) (rw says-spoken (y .allows)) in
+    (same-word x y (spoken-one (x .answer) (y .answer) (both .0)), both .1)
+
+pub one-paths-linked-given : (t : Table) {fs ns out ends o o′ b b′ : List ℕ} {r s : ℕ}
+    → Tells (λ a. Keeping t fs ns a (AllPaths t out ends a o b) ((o ≡ out) × (b ≡ ends))) r
+    → Tells (λ a. Keeping t fs ns a (AllPaths t out ends a o′ b′) ((o′ ≡ out) × (b′ ≡ ends))) s → (r ≡ s) × (o ≡ o′) × (b ≡ b′)
+one-paths-linked-given t {fs} {ns} {out} {ends} {o} {o′} {b} {b′} x y =
+    let all = one-paths-linked t {fs = fs} {ns = ns} {out = out} {ends = ends} {o = o} {o′ = o′} {b = b} {b′ = b′} (spoken (x .answer)) (spoken (y .answer)) (rw says-spoken (x .allows)) (rw says-spoken (y .allows)) in
+    (same-word x y (spoken-one (x .answer) (y .answer) (all .0)), all .1, all .2)
+
+-- every answer is that of a test's case, too
+abbrev tested : Answer (Unit {0}) → Checked
+tested (got u n) = checked.Whole n
+tested (refused t) = checked.Refused t
+
+says-tested : (a : Answer (Unit {0})) → saysChecked (tested a) ≡ a
+says-tested (got u n) = refl
+says-tested (refused t) = refl
+
+pub one-linked-given : (t : Table) {fs ns f g m o : List ℕ} {r s : ℕ} → Tells (λ a. Linked t fs ns a f m) r → Tells (λ a. Linked t fs ns a g o) s → (r ≡ s) × (f ≡ g) × (m ≡ o)
+one-linked-given t {fs} {ns} {f} {g} {m} {o} x y =
+    let all = one-linked t {fs = fs} {ns = ns} {f = f} {g = g} {m = m} {o = o} (tested (x .answer)) (tested (y .answer)) (rw says-tested (x .allows)) (rw says-tested (y .allows)) in
+    (same-word x y (sym (says-tested (x .answer)) ∙ ap saysChecked (all .0) ∙ says-tested (y .answer)), all .1, all .2)
+
 pub one-collected-given : {t : Table} {old hs hs′ ps ps′ es es′ ms ms′ ns ns′ new new′ : List ℕ} {r s : ℕ}
     → Tells (λ a. Collected t old a hs ps es ms ns new) r → Tells (λ a. Collected t old a hs′ ps′ es′ ms′ ns′ new′) s
     → (r ≡ s) × ((hs ≡ hs′) × (ps ≡ ps′) × (es ≡ es′) × (ms ≡ ms′) × (ns ≡ ns′)) × (new ≡ new′)
@@ -65,6 +111,26 @@ pub one-added-given : {asked : Answer (Unit {0})} {t : Table} {old name hs hs′
     → Tells (λ a. Adds asked t old parent handle name a hs ps es ms ns new) r → Tells (λ a. Adds asked t old parent handle name a hs′ ps′ es′ ms′ ns′ new′) s
     → (r ≡ s) × ((hs ≡ hs′) × (ps ≡ ps′) × (es ≡ es′) × (ms ≡ ms′) × (ns ≡ ns′)) × (new ≡ new′)
 one-added-given x y = let all = one-added (x .allows) (y .allows) in (same-word x y (all .0), all .1, all .2)
+
+pub one-deleted-linked-given : (t : Table) (fs ns : List ℕ) (place : ℕ) {ms ms′ f g m o : List ℕ} {r s : ℕ}
+    → Tells (λ a. DeletedLinked t fs ns place a ms f m) r → Tells (λ a. DeletedLinked t fs ns place a ms′ g o) s → (r ≡ s) × (ms ≡ ms′) × (f ≡ g) × (m ≡ o)
+one-deleted-linked-given t fs ns place x y =
+    let all = one-deleted-linked t fs ns place (x .allows) (y .allows) in
+    (same-word x y (all .0), all .1, all .2, all .3)
+
+module _ (t : Table) (fs ns old : List ℕ) {hs hs′ ps ps′ es es′ ms ms′ bs bs′ f g m o new new′ : List ℕ} {r s : ℕ} where
+  pub one-collected-linked-given : Tells (λ a. CollectedLinked t fs ns old a hs ps es ms bs f m new) r → Tells (λ a. CollectedLinked t fs ns old a hs′ ps′ es′ ms′ bs′ g o new′) s
+      → (r ≡ s) × ((hs ≡ hs′) × (ps ≡ ps′) × (es ≡ es′) × (ms ≡ ms′) × (bs ≡ bs′)) × (f ≡ g) × (m ≡ o) × (new ≡ new′)
+  one-collected-linked-given x y =
+      let all = one-collected-linked t fs ns old (x .allows) (y .allows) in
+      (same-word x y (all .0), all .1, all .2, all .3, all .4)
+
+  pub one-added-linked-given : (parent handle : ℕ) (name : List ℕ) → Bytes (t .names) → Bytes name
+      → Tells (λ a. AddsLinked t fs ns old parent handle name a hs ps es ms bs f m new) r → Tells (λ a. AddsLinked t fs ns old parent handle name a hs′ ps′ es′ ms′ bs′ g o new′) s
+      → (r ≡ s) × ((hs ≡ hs′) × (ps ≡ ps′) × (es ≡ es′) × (ms ≡ ms′) × (bs ≡ bs′)) × (f ≡ g) × (m ≡ o) × (new ≡ new′)
+  one-added-linked-given parent handle name h i x y =
+      let all = one-added-linked t fs ns old parent handle name h i (x .allows) (y .allows) in
+      (same-word x y (all .0), all .1, all .2, all .3, all .4)
 
 pub one-sent : (n end code count : ℕ) (said : ℕ → Said) (old new new′ : List ℕ) (n′ n″ end′ end″ r s : ℕ)
     → Tells (Parts n end code count said old n′ end′ new) r → Tells (Parts n end code count said old n″ end″ new′) s → (r ≡ s) × (n′ ≡ n″) × (end′ ≡ end″) × (new ≡ new′)

@@ -7,3 +7,5 @@ pub mod Rows
 pub mod Sent
 pub mod Mended
 pub mod Settings
+pub mod Packets
+pub mod Recorded

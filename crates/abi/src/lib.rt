@@ -3,12 +3,15 @@
 mod answer;
 mod copied;
 mod dataset;
+mod linked;
 mod mended;
 mod name;
 mod object_table;
+mod packet;
 mod payload;
 mod property;
 mod record;
+mod recorded;
 mod setting;
 mod text;
 mod transaction;

@@ -1,9 +1,10 @@
-// The walk of an object table, a path, and all paths in its order; an object deleted, the live ones collected, one added.
+// The walk of an object table, a path, and all paths in its order; its folder view, and all paths in that order; an object deleted, the live ones collected, one added.
 ghost use mathlib.Core.Path.{_≡_};
-ghost use Rattle.layout.specs.Written.{Wrote, saysWritten};
+ghost use Rattle.layout.specs.Written.{saysWritten};
 ghost use Rattle.tree.specs.Path.{pathSaid, Walked, AllPaths};
 ghost use Rattle.tree.specs.Says.{saysChecked};
 ghost use Rattle.tree.specs.Table.{table};
+ghost use Rattle.tree.specs.View.{Viewed, ViewPaths};
 ghost use Rattle.shots.specs.Added.{addAt, Adds, saysAdded};
 ghost use Rattle.shots.specs.Collected.{Collected};
 ghost use Rattle.shots.specs.Deleted.{deleteSaid};
@@ -63,7 +64,40 @@ pub extern "C" fn ptp_paths(
     answer::told(tree::paths(handles, parents, ends, marks, count, names, out, out_ends))
 }
 
-fn counted(c: Checked) -> Written
+// The places of the folder view.
+#[no_mangle]
+pub extern "C" fn ptp_folders(
+    handles: &[u32],
+    parents: &[u16],
+    ends: &[u32],
+    marks: &[u8],
+    count: usize,
+    names: &[u8],
+    places: &mut [u16],
+) -> u64
+    ensures { λ r. ⌜ Tells (λ a. Viewed (table (now (handles .entry)) (now (parents .entry)) (now (ends .entry)) (now (marks .entry)) count (now (names .entry))) (now (places .entry)) a (now (places .exit))) r ⌝ }
+{
+    answer::told(tree::folders_into(handles, parents, ends, marks, count, names, places))
+}
+
+// All paths in its order.
+#[no_mangle]
+pub extern "C" fn ptp_folder_paths(
+    handles: &[u32],
+    parents: &[u16],
+    ends: &[u32],
+    marks: &[u8],
+    count: usize,
+    names: &[u8],
+    out: &mut [u8],
+    out_ends: &mut [u32],
+) -> u64
+    ensures { λ r. ⌜ Tells (λ a. ViewPaths (table (now (handles .entry)) (now (parents .entry)) (now (ends .entry)) (now (marks .entry)) count (now (names .entry))) (now (out .entry)) (now («out_ends» .entry)) a (now (out .exit)) (now («out_ends» .exit))) r ⌝ }
+{
+    answer::told(tree::folder_paths(handles, parents, ends, marks, count, names, out, out_ends))
+}
+
+pub(crate) fn counted(c: Checked) -> Written
     ensures { λ r. ⌜ saysWritten r ≡ saysChecked c ⌝ }
 {
     match c {
@@ -72,7 +106,7 @@ fn counted(c: Checked) -> Written
     }
 }
 
-fn placed(a: Added) -> Written
+pub(crate) fn placed(a: Added) -> Written
     ensures { λ r. ⌜ saysWritten r ≡ saysAdded a ⌝ }
 {
     match a {

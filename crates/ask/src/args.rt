@@ -1,6 +1,6 @@
 // A question's words, read by its signature: a letter a word.
 // 1 2 4 8: a number of so many bytes; r: a room; m: a report's room; b: bytes; o h n: a list of 8-bit, 16-bit and 32-bit numbers, as many lists as are
-// lent room; l: a description's layout, `crate` or `book`; e: an edition, 1 or 2; w: as it stands.
+// lent room; l: a description's layout, `crate` or `book`; d: the data's direction, `in` or `out`; e: an edition, 1 or 2; w: as it stands.
 use crate::many;
 use crate::number;
 use crate::slice;
@@ -9,13 +9,13 @@ use crate::slice;
 pub(crate) const MOST_NUMBERS: usize = 4096;
 
 // The words of a question at most.
-const MOST_WORDS: usize = 9;
+const MOST_WORDS: usize = 11;
 
-// Of each word, in order, a number and a count: a number's value; 1 for `book` and 0 for `crate`; where bytes, a list or a word start, and how many they are. Of the
+// Of each word, in order, a number and a count: a number's value; 1 for `book` and `out`, 0 for `crate` and `in`; where bytes, a list or a word start, and how many they are. Of the
 // last bytes or word, and of the room, again by name.
 pub(crate) struct Args {
-    pub numbers: [usize; 9],
-    pub counts: [usize; 9],
+    pub numbers: [usize; 11],
+    pub counts: [usize; 11],
     pub start: usize,
     pub count: usize,
     pub room: usize,
@@ -52,12 +52,13 @@ fn a_number(letter: u8, w: &[u8]) -> Got {
     }
 }
 
-fn a_layout(w: &[u8]) -> Got {
-    let is_book = slice::same(w, b"book");
+// One of two words: 0 for the first, 1 for the second.
+fn either(w: &[u8], first: &[u8], second: &[u8]) -> Got {
+    let is_second = slice::same(w, second);
     Got {
-        number: is_book as usize,
+        number: is_second as usize,
         count: 0,
-        ok: is_book || slice::same(w, b"crate"),
+        ok: is_second || slice::same(w, first),
     }
 }
 
@@ -92,7 +93,8 @@ fn one(letter: u8, w: &mut [u8], start: usize, numbers: &mut [u32], used: usize)
                 ok: n.ok,
             }
         }
-        b'l' => a_layout(w),
+        b'l' => either(w, b"crate", b"book"),
+        b'd' => either(w, b"in", b"out"),
         b'e' => an_edition(w),
         b'w' => Got {
             number: start,
@@ -158,8 +160,8 @@ fn next(a: Args, letter: u8, line: &mut [u8], numbers: &mut [u32]) -> Args {
 // The words behind a place of the line, one for each letter, and nothing after them.
 pub(crate) fn read(signature: &[u8], line: &mut [u8], at: usize, numbers: &mut [u32]) -> Args {
     let mut a = Args {
-        numbers: [0usize; 9],
-        counts: [0usize; 9],
+        numbers: [0usize; 11],
+        counts: [0usize; 11],
         start: 0,
         count: 0,
         room: 0,

@@ -7,6 +7,7 @@ use crate::mended;
 use crate::objects;
 use crate::print;
 use crate::reads;
+use crate::recorded;
 use crate::show;
 use crate::slice;
 use crate::told;
@@ -68,12 +69,19 @@ pub(crate) fn of(
         b'l' => list::answer(reads::layout(a), src, text, at),
         b'n' => newer(a, line, text, at),
         b'w' => objects::walk(a, line, numbers, text, at),
-        b'p' => objects::paths(a, line, numbers, text, at),
+        b'v' => objects::places(true, a, line, numbers, text, at),
+        b'K' => objects::places(false, a, line, numbers, text, at),
+        b'p' | b'V' | b'P' => objects::paths(arm, a, line, numbers, text, at),
         b'd' => objects::delete(a, line, numbers, text, at),
-        b'C' => objects::change(false, a, line, numbers, text, at),
-        b'a' => objects::change(true, a, line, numbers, text, at),
+        b'D' => objects::delete_linked(a, line, numbers, text, at),
+        b'C' => objects::change(false, false, a, line, numbers, text, at),
+        b'G' => objects::change(false, true, a, line, numbers, text, at),
+        b'a' => objects::change(true, false, a, line, numbers, text, at),
+        b'A' => objects::change(true, true, a, line, numbers, text, at),
+        b'k' => objects::link(a, line, numbers, text, at),
         b's' => kept::row(a, src, text, at),
         b'f' => kept::find(a, src, numbers, text, at),
+        b'R' => recorded::answer(src, text, at),
         b'c' => copy(a, src, text, at),
         b'm' => mended::answer(a, src, text, at),
         b'L' => listed::answer(src, text, at),

@@ -13,9 +13,11 @@ mod many;
 mod mended;
 mod number;
 mod objects;
+mod packets;
 mod print;
 mod question;
 mod reads;
+mod recorded;
 mod show;
 mod slice;
 mod table;
@@ -44,9 +46,9 @@ fn out_room() -> [u8; 1048576] {
     [0u8; 1048576]
 }
 
-// For four lists of the most numbers that one may have.
-fn numbers_room() -> [u32; 16384] {
-    [0u32; 16384]
+// For six lists of the most numbers that one may have.
+fn numbers_room() -> [u32; 24576] {
+    [0u32; 24576]
 }
 
 // A writer's output is filled before, and printed whole after its pieces.

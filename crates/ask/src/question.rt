@@ -10,7 +10,7 @@ pub(crate) const READS: u8 = b'r';
 
 pub(crate) const WRITES: u8 = b'w';
 
-const TABLE: [u8; 813] = *b"\
+const TABLE: [u8; 1065] = *b"\
     response-name rR 2;\
     command-name rC 2;\
     value rv 28b;\
@@ -37,6 +37,9 @@ const TABLE: [u8; 813] = *b"\
     header rh b;\
     container rc b;\
     write-container wc 224br;\
+    to-network wN dbr;\
+    from-network wF br;\
+    packet rP 8b;\
     command wm 42nr;\
     command-data wd 42nbr;\
     panel wn l4b2br;\
@@ -54,11 +57,20 @@ const TABLE: [u8; 813] = *b"\
     delete ld nhno8b8;\
     collect lC nhno8b;\
     add la nhno8b84b;\
+    folders lv nhno8b;\
+    folder-paths lV nhno8br;\
+    link lk nhno8b;\
+    linked-walk lK nhno8bhh;\
+    linked-paths lP nhno8bhhr;\
+    linked-delete lD nhno8bhh8;\
+    linked-collect lG nhno8bhh;\
+    linked-add lA nhno8bhh84b;\
     settings ls eb;\
     settings-find lf eb42h;\
     settings-store wk ebbr;\
     record rr b;\
     write-record wr 2br;\
+    recording lR b;\
     copy lc br;\
     mend lm brm;\
     listing lL b";

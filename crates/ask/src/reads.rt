@@ -4,6 +4,7 @@ use crate::args::low8;
 use crate::args::low16;
 use crate::args::low32;
 use crate::fields;
+use crate::packets;
 use crate::show;
 use crate::told;
 use crate::told::Told;
@@ -241,6 +242,7 @@ pub(crate) fn of(arm: u8, a: Args, src: &[u8]) -> Told {
         b'D' => device_info(src),
         b'O' => object_info(src),
         b'r' => record(src),
+        b'P' => packets::packet(a, src),
         _ => told::unknown(),
     }
 }

@@ -6,6 +6,7 @@ use crate::integer;
 use crate::integer::Given;
 use crate::kept;
 use crate::objects;
+use crate::packets;
 use crate::reads;
 use crate::slice;
 use crate::table;
@@ -154,6 +155,8 @@ fn of_bytes(arm: u8, a: Args, src: &[u8], page: &mut [u8]) -> Told {
             page,
         )),
         b'r' => told::written(recording::write_record(n, src, page)),
+        b'N' => packets::to_network(a, src, page),
+        b'F' => packets::from_network(src, page),
         _ => told::unknown(),
     }
 }

@@ -8,7 +8,7 @@ use native.Mathlib.Omega.{arith}
 use lib.ListN.{length, take, drop, length-append}
 use Rattle.layout.specs.Written.{Put, roomed}
 use Rattle.layout.proofs.laws.Stored.{first, more}
-use Rattle.names.specs.Names.{spelled, nameBytes}
+use Rattle.names.specs.Names.{nameBytes}
 use Rattle.recording.specs.Content.{Record}
 use Rattle.recording.specs.Content as content
 use Rattle.wire.specs.declared.container.Container.{Container}

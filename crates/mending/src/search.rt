@@ -1,5 +1,4 @@
 // The two searches of mending: past bytes at which no record stands, and past records one after the other.
-ghost use mathlib.Core.Path.{_≡_};
 ghost use Prim.Native.Nat.{_≤_};
 ghost use lib.ListN.{length};
 ghost use Rattle.mending.specs.Passed.{Gap, Row};

@@ -9,3 +9,6 @@ pub mod Placed
 pub mod Moved
 pub mod Copying
 pub mod Writing
+pub mod Records
+pub mod Recordings
+pub mod Demand

@@ -41,7 +41,7 @@ use Rattle.recording.proofs.Recorded.{record-length}
 pub data Taken (kind : ℕ) (body : List ℕ) : Type 0 where
   filled : (x : Container) → (kind ≡ 3 → ⊥) → containerAt body 0 ≡ got x (length body) → Taken kind body
 
-record Due (kind : ℕ) (body w : List ℕ) : Type 0 where
+pub record Due (kind : ℕ) (body w : List ℕ) : Type 0 where
   pub low : 1 ≤ kind
   pub high : kind ≤ 2
   pub small : length body ≤ limit
@@ -65,7 +65,7 @@ taken-by kind body c n no-note e = go (eqb kind 3) refl e
     go true h f = absurd (no-note (eqb-true kind 3 h))
     go false h f = of (containerAt body 0) refl (eqb-false kind 3 h) f
 
-due : (kind : ℕ) (body w : List ℕ) → recordSaid kind body ≡ says w → Due kind body w
+pub due : (kind : ℕ) (body w : List ℕ) → recordSaid kind body ≡ says w → Due kind body w
 unfolding recordSaid isWritten saidOf means
 due kind body w e = go (leb 1 kind) refl (leb kind 2) refl (leb (length body) limit) refl (contentAt kind body 0) refl e
   where

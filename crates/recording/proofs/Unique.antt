@@ -13,6 +13,9 @@ use Rattle.recording.specs.declared.Content as declared
 use Rattle.recording.specs.declared.Content.the-variants as variants
 use Rattle.recording.specs.declared.ReadRecord.{ReadRecord}
 use Rattle.recording.specs.declared.ReadRecord.the-variants as readRecord
+use Rattle.recording.specs.Recording.{saysRecording}
+use Rattle.recording.specs.declared.row.ReadRecording.{ReadRecording}
+use Rattle.recording.specs.declared.row.ReadRecording.the-variants as readRecording
 use Rattle.recording.specs.Row.{saysFront, mayChange, Finds}
 use Rattle.recording.specs.declared.ReadFront.{ReadFront}
 use Rattle.recording.specs.declared.ReadFront.the-variants as readFront
@@ -35,6 +38,18 @@ record-back (readRecord.Refused t) = refl
 
 pub tells-record : Tells saysRecord
 tells-record = retracts record-from record-back
+
+-- of a recording
+abbrev recording-from : Answer ℕ → ReadRecording
+recording-from (got k n) = readRecording.Got k (record { at = n })
+recording-from (refused t) = readRecording.Refused t
+
+recording-back : (r : ReadRecording) → recording-from (saysRecording r) ≡ r
+recording-back (readRecording.Got k c) = refl
+recording-back (readRecording.Refused t) = refl
+
+pub tells-recording : Tells saysRecording
+tells-recording = retracts recording-from recording-back
 
 -- of bytes that others may follow
 abbrev front-from : Answer content.Record → Bool → ReadFront

@@ -6,3 +6,6 @@ pub mod Older
 pub mod Refused
 pub mod Returned
 pub mod Writing
+pub mod Layout
+pub mod Codecs
+pub mod Recording

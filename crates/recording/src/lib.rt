@@ -1,4 +1,4 @@
-// Records of a recording, read and written one at a time; and a recording copied without its notes.
+// Records of a recording, read and written one at a time; a recording as a whole; and one copied without its notes.
 ghost use mathlib.Core.Path.{_≡_};
 ghost use Prim.Native.Nat.{_≤_};
 ghost use lib.ListN.{length};
@@ -8,6 +8,7 @@ ghost use Rattle.recording.specs.Record.{begins as Record·begins};
 ghost use Rattle.recording.specs.Row.{waitsFor, Finds};
 
 mod copy;
+mod row;
 
 pub use copy::Copied;
 pub use copy::Front;
@@ -17,6 +18,8 @@ pub use copy::copy_records;
 pub use copy::whole_records;
 use layout::Refusal;
 use layout::Written;
+pub use row::ReadRecording;
+pub use row::read_recording;
 use wire::Container;
 use wire::Cursor;
 use wire::Part;

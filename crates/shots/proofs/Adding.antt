@@ -231,7 +231,7 @@ module _ (t : Table) {n : ℕ} (e : tableAt t ≡ got tt n) where
   own : (k : ℕ) → live (flags t) k ≡ true → getD (upFrom 0 (t .count)) k 0 ≡ k
   own k h = own-at 0 (t .count) k (omega (arith, marked-there (flags t) k h, marks-long (sound t (rule-ok t rule)))) ∙ zero-add k
 
-  base-carries : (size : ℕ) → Carries t (base t size) (newPlaces t size)
+  pub base-carries : (size : ℕ) → Carries t (base t size) (newPlaces t size)
   base-carries size = by (tight t size)
     where
       by : (b : Bool) → Carries t (pick b (collected t) t) (pick b (places t) (upFrom 0 (t .count)))

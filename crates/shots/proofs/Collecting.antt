@@ -53,7 +53,7 @@ module _ (t : Table) (r : Rule t) where
   many : alive (flags t) ≤ 1024
   many = let a = alive-few (flags t) in let b = r .few in let n = flags-count in omega arith
 
-  new-is : (k : ℕ) → live (flags t) k ≡ true → newPlace t k ≡ rank t k
+  pub new-is : (k : ℕ) → live (flags t) k ≡ true → newPlace t k ≡ rank t k
   new-is k e = place-of 0 (flags t) k e ∙ zero-add (rank t k)
 
   there : (k : ℕ) → live (flags t) k ≡ true → k < t .count

@@ -111,7 +111,7 @@ module _ (t : Table) (r : Rule t) (place : ℕ) (o : 0 < place) (h : live (flags
         within = r .within;
       }
 
-  flags-are : flags (deleted t place) ≡ ended t place
+  pub flags-are : flags (deleted t place) ≡ ended t place
   flags-are = ap (λ (n : ℕ). take n (ended t place ++ drop (length (ended t place)) (t .marks))) (sym ended-count) ∙ take-append-seam (ended t place) (drop (length (ended t place)) (t .marks))
 
   -- live after is what was live before and did not end

@@ -6,8 +6,7 @@ use mathlib.Core.List.{List, [], _∷_, _++_}
 use Prim.Native.Nat.{ℕ, zero, suc, _+_, _-_, _≤_, _<_}
 use native.Mathlib.Nat.{add-zero, zero-add, add-suc, suc-add, not-suc-le-zero}
 use native.Mathlib.Omega.{arith}
-use borrow.Author.Tests.{lt-ltb, le-ltb, ltb-true, ltb-false}
-use lib.Dec.{ltb}
+use borrow.Author.Tests.{lt-ltb, le-ltb, ltb-true}
 use lib.ListN.{length, getD, take, drop, set, length-set, length-append, length-drop, List·getD-append}
 use lib.Seq.{getD-set-same, getD-set-other, getD-take, getD-drop, getD-append-add, length-take-le, ext-getD}
 use Rattle.layout.specs.Answer.{pick}
@@ -17,9 +16,10 @@ use Rattle.tree.specs.Facts.{Ruled, Marks}
 use Rattle.tree.specs.Listed.{times}
 use Rattle.tree.specs.Table.{parent, live}
 use Rattle.tree.specs.Way.{way}
-use Rattle.tree.proofs.laws.Counts.{equal, hit, miss, times-append}
+use Rattle.tree.proofs.laws.Below.{by-less}
+use Rattle.tree.proofs.laws.Counts.{equal, hit, miss}
+use Rattle.tree.proofs.laws.Queued.{way-on, way-past}
 use Rattle.tree.proofs.laws.Sound.{marked-there}
-use Rattle.tree.proofs.laws.Ways.{way-root, way-step}
 use Rattle.shots.specs.Deleted.{under, endedFrom}
 
 pub ended-long : (k : ℕ) (ps : List ℕ) (place : ℕ) (ms : List ℕ) → length (endedFrom k ps place ms) ≡ length ms
@@ -49,39 +49,49 @@ module _ (ps : List ℕ) (place x j : ℕ) where
   stays-if h = rw (le-ltb 0 (times place (way ps j)) (omega arith))
 
 module _ (ps : List ℕ) (rule : Ruled ps) (place : ℕ) where
-  -- the way to a place is the way to its parent and the place
-  way-times : (k : ℕ) → 0 < k → k < length ps → times place (way ps k) ≡ times place (way ps (parent ps k)) + times place (k ∷ [])
-  way-times k s l = ap (times place) (way-step ps rule k s l) ∙ times-append place (way ps (parent ps k)) (k ∷ [])
-
-  before-by : (f j : ℕ) → j < f → j < place → j < length ps → times place (way ps j) ≡ 0
-  before-by zero j h a l = absurd (not-suc-le-zero h)
-  before-by (suc f) j h a l =
-      equal j 0
-      (λ e. let w : times place (way ps j) ≡ times place (0 ∷ []) = rw e (ap (times place) (way-root ps)) in
-      let z = miss place 0 [] (λ q. omega arith) in
-      omega arith)
-      (λ e. let s : 0 < j = omega arith in
-      let r = rule .smaller j s l in
-      let w = way-times j s l in
-      let i = before-by f (parent ps j) (omega arith) (omega arith) (omega arith) in
-      let z = miss place j [] (λ q. omega arith) in
-      omega arith)
-
-  -- nothing before the place hangs under it
-  pub before-it : (j : ℕ) → j < place → place < length ps → times place (way ps j) ≡ 0
-  before-it j a l = before-by (suc j) j (omega arith) a (omega arith)
-
   pub itself : 0 < place → place < length ps → 0 < times place (way ps place)
   itself s l =
-      let w = way-times place s l in
+      let w = way-on ps rule place place s l in
       let z = hit place place [] refl in
       omega arith
 
-not-live : (ms : List ℕ) (k : ℕ) → (live ms k ≡ true → ⊥) → getD ms k 0 ≡ 0
+pub not-live : (ms : List ℕ) (k : ℕ) → (live ms k ≡ true → ⊥) → getD ms k 0 ≡ 0
 not-live ms k f = equal (getD ms k 0) 0 (λ e. e) (λ e. absurd (f (lt-ltb 0 (getD ms k 0) (omega arith))))
 
 live-not : (ms : List ℕ) (k : ℕ) → live ms k ≡ true → getD ms k 0 ≡ 0 → ⊥
 live-not ms k e z = let f = le-ltb 0 (getD ms k 0) (omega arith) in let q : _≡_ {A = Bool} true false = sym e ∙ f in let o : _≡_ {A = ℕ} 0 1 = cc in omega arith
+
+-- marks that are as they shall be up to the count, and as they were behind it
+module _ (ps old : List ℕ) (even : length ps ≤ length old) (place : ℕ) where
+  abbrev all : List ℕ
+  all = endedFrom 0 ps place (take (length ps) old)
+
+  all-long : length all ≡ length ps
+  all-long = ended-long 0 ps place (take (length ps) old) ∙ length-take-le (length ps) old even
+
+  module _ (ms : List ℕ) (long : length ms ≡ length old) (done : (i : ℕ) → i < length ps → getD ms i 0 ≡ pick (under ps place i) 0 (getD old i 0)) (left : (i : ℕ) → length ps ≤ i → getD ms i 0 ≡ getD old i 0) where
+    each : (i : ℕ) → getD ms i 0 ≡ getD (all ++ drop (length all) old) i 0
+    each i = by-less i (length ps) _ refl
+        (λ l. let a = all-long in
+        let t = length-take-le (length ps) old even in
+        done i l ∙ ap (λ (x : ℕ). pick (under ps place i) 0 x) (sym (getD-take (length ps) old i 0 l))
+        ∙ ap (λ (j : ℕ). pick (under ps place j) 0 (getD (take (length ps) old) i 0)) (sym (zero-add i))
+        ∙ sym (ended-at 0 ps place (take (length ps) old) i (omega arith))
+        ∙ sym (List·getD-append all (drop (length all) old) 0 i (omega arith)))
+        (λ l. let a = all-long in
+        let z : i ≡ length all + (i - length all) = omega arith in
+        left i l ∙ ap (λ (j : ℕ). getD old j 0) z ∙ sym (getD-drop (length all) old (i - length all) 0)
+        ∙ sym (getD-append-add all (drop (length all) old) (i - length all) 0) ∙ ap (λ (j : ℕ). getD (all ++ drop (length all) old) j 0) (sym z))
+
+    pub ended-put : Put old 0 (endedFrom 0 ps place (take (length ps) old)) ms (length ps)
+    ended-put =
+        let a = all-long in
+        let d = length-append all (drop (length all) old) in
+        let f = length-drop (length all) old in
+        record {
+          bytes = ext-getD 0 ms (all ++ drop (length all) old) (omega arith) (λ i b. each i) ∙ sym (put-front old all (omega arith));
+          place = omega arith;
+        }
 
 module _ (ps : List ℕ) (rule : Ruled ps) (old : List ℕ) (even : length ps ≤ length old) (marks : Marks ps (live (take (length ps) old))) (place : ℕ) (s : 0 < place) (l : place < length ps) where
   pub ending-start : Ending ps place (set old place 0) (set old place 0) (place + 1)
@@ -89,7 +99,7 @@ module _ (ps : List ℕ) (rule : Ruled ps) (old : List ℕ) (even : length ps �
     long = refl;
     done = λ j h. equal j place
         (λ e. rw e (getD-set-same old place 0 0 (omega arith) ∙ sym (ends-if ps place (getD (set old place 0) place 0) place (itself ps rule place s l))))
-        (λ e. sym (stays-if ps place (getD (set old place 0) j 0) j (before-it ps rule place j (omega arith) l)));
+        (λ e. sym (stays-if ps place (getD (set old place 0) j 0) j (way-past ps rule place j (omega arith) (omega arith))));
     left = λ j h. refl;
     within = omega arith;
     past = omega arith;
@@ -103,7 +113,7 @@ module _ (ps : List ℕ) (rule : Ruled ps) (old : List ℕ) (even : length ps �
     other = let p = e .past in miss place k [] (λ q. omega arith)
 
     way-k : times place (way ps k) ≡ times place (way ps (parent ps k))
-    way-k = let p = e .past in let w = way-times ps rule place k (omega arith) h in let o = other in omega arith
+    way-k = let p = e .past in let w = way-on ps rule place k (omega arith) h in let o = other in omega arith
 
     -- a place that was not live before
     was : getD old (parent ps k) 0 ≡ 0 → getD old k 0 ≡ 0
@@ -163,76 +173,42 @@ module _ (ps : List ℕ) (rule : Ruled ps) (old : List ℕ) (even : length ps �
       (λ q. rw q (let i = itself ps rule place s l in ends-if ps place (getD (set old place 0) place 0) place i ∙ sym (ends-if ps place (getD old place 0) place i)))
       (λ q. ap (λ (x : ℕ). pick (under ps place j) 0 x) (getD-set-other old place j 0 0 q))
 
-  abbrev all : List ℕ
-  all = endedFrom 0 ps place (take (length ps) old)
-
-  all-long : length all ≡ length ps
-  all-long = ended-long 0 ps place (take (length ps) old) ∙ length-take-le (length ps) old even
-
-  module _ {ms : List ℕ} {k : ℕ} (e : Ending ps place (set old place 0) ms k) (h : length ps ≤ k) where
-    each : (i : ℕ) → getD ms i 0 ≡ getD (all ++ drop (length all) old) i 0
-    each i = by (ltb i (length ps)) refl
-      where
-        by : (b : Bool) → ltb i (length ps) ≡ b → getD ms i 0 ≡ getD (all ++ drop (length all) old) i 0
-        by true q =
-            let l : i < length ps = ltb-true i (length ps) q in
-            let a = all-long in
-            let t = length-take-le (length ps) old even in
-            e .done i (omega arith) ∙ either i ∙ ap (λ (x : ℕ). pick (under ps place i) 0 x) (sym (getD-take (length ps) old i 0 l))
-            ∙ ap (λ (j : ℕ). pick (under ps place j) 0 (getD (take (length ps) old) i 0)) (sym (zero-add i))
-            ∙ sym (ended-at 0 ps place (take (length ps) old) i (omega arith))
-            ∙ sym (List·getD-append all (drop (length all) old) 0 i (omega arith))
-        by false q =
-            let l : length ps ≤ i = omega (arith, ltb-false i (length ps) q) in
-            let w = e .within in
-            let a = all-long in
-            let z : i ≡ length all + (i - length all) = omega arith in
-            e .left i (omega arith) ∙ getD-set-other old place i 0 0 (λ r. omega arith)
-            ∙ ap (λ (j : ℕ). getD old j 0) z ∙ sym (getD-drop (length all) old (i - length all) 0)
-            ∙ sym (getD-append-add all (drop (length all) old) (i - length all) 0) ∙ ap (λ (j : ℕ). getD (all ++ drop (length all) old) j 0) (sym z)
-
-    pub ending-end : Put old 0 (endedFrom 0 ps place (take (length ps) old)) ms k
-    ending-end =
-        let a = all-long in
-        let w = e .within in
-        let d = length-append all (drop (length all) old) in
-        let f = length-drop (length all) old in
-        let g = e .long in
-        let t = length-set old place 0 in
-        record {
-          bytes = ext-getD 0 ms (all ++ drop (length all) old) (omega arith) (λ i b. each i) ∙ sym (put-front old all (omega arith));
-          place = omega arith;
-        }
+  pub ending-end : {ms : List ℕ} {k : ℕ} → Ending ps place (set old place 0) ms k → length ps ≤ k → Put old 0 (endedFrom 0 ps place (take (length ps) old)) ms k
+  ending-end {ms} {k} e h =
+      let w = e .within in
+      let n : k ≡ length ps = omega arith in
+      rw n (ended-put ps old even place ms (e .long ∙ length-set old place 0)
+      (λ i b. e .done i (omega arith) ∙ either i)
+      (λ i b. e .left i (omega arith) ∙ getD-set-other old place i 0 0 (λ r. omega arith)))
 
 -- the marks keep their rule: the root is live, and what is live hangs under a live one
 module _ (ps : List ℕ) (rule : Ruled ps) (ms : List ℕ) (even : length ms ≡ length ps) (marks : Marks ps (live ms)) (place : ℕ) (s : 0 < place) (l : place < length ps) where
   at-place : (k : ℕ) → k < length ps → getD (endedFrom 0 ps place ms) k 0 ≡ pick (under ps place k) 0 (getD ms k 0)
   at-place k h = ended-at 0 ps place ms k (omega arith) ∙ ap (λ (j : ℕ). pick (under ps place j) 0 (getD ms k 0)) (zero-add k)
 
-  stays-live : (k : ℕ) → k < length ps → times place (way ps k) ≡ 0 → live ms k ≡ true → live (endedFrom 0 ps place ms) k ≡ true
-  stays-live k h z e =
-      let g = at-place k h ∙ stays-if ps place (getD ms k 0) k z in
+  pub stays-live : (k : ℕ) → live ms k ≡ true → times place (way ps k) ≡ 0 → live (endedFrom 0 ps place ms) k ≡ true
+  stays-live k e z =
+      let g = at-place k (marks .place k e) ∙ stays-if ps place (getD ms k 0) k z in
       lt-ltb 0 (getD (endedFrom 0 ps place ms) k 0) (let p = ltb-true 0 (getD ms k 0) e in omega arith)
 
-  was-live : (k : ℕ) → k < length ps → live (endedFrom 0 ps place ms) k ≡ true → (times place (way ps k) ≡ 0) × (live ms k ≡ true)
-  was-live k h e =
+  still : (k : ℕ) → live (endedFrom 0 ps place ms) k ≡ true → k < length ps
+  still k e = let t = marked-there (endedFrom 0 ps place ms) k e in let n = ended-long 0 ps place ms in omega arith
+
+  pub was-live : (k : ℕ) → live (endedFrom 0 ps place ms) k ≡ true → (live ms k ≡ true) × (times place (way ps k) ≡ 0)
+  was-live k e =
       let p = ltb-true 0 (getD (endedFrom 0 ps place ms) k 0) e in
-      let a = at-place k h in
+      let a = at-place k (still k e) in
       equal (times place (way ps k)) 0
-      (λ z. (z, lt-ltb 0 (getD ms k 0) (let b = stays-if ps place (getD ms k 0) k z in omega arith)))
+      (λ z. (lt-ltb 0 (getD ms k 0) (let b = stays-if ps place (getD ms k 0) k z in omega arith), z))
       (λ z. absurd (let b = ends-if ps place (getD ms k 0) k (omega arith) in omega arith))
 
   pub marks-kept : Marks ps (live (endedFrom 0 ps place ms))
   marks-kept = record {
-    root = stays-live 0 (omega arith) (before-it ps rule place 0 s l) (marks .root);
-    place = λ k e. let t = marked-there (endedFrom 0 ps place ms) k e in let n = ended-long 0 ps place ms in omega arith;
+    root = stays-live 0 (marks .root) (way-past ps rule place 0 s (omega arith));
+    place = still;
     up = λ k z e.
-        let t = marked-there (endedFrom 0 ps place ms) k e in
-        let n = ended-long 0 ps place ms in
-        let h : k < length ps = omega arith in
-        let less = rule .smaller k z h in
-        let w = was-live k h e in
-        let v = way-times ps rule place k z h in
-        let gone = w .0 in
-        stays-live (parent ps k) (omega arith) (omega arith) (marks .up k z (w .1));
+        let w = was-live k e in
+        let gone = w .1 in
+        let v = way-on ps rule place k z (still k e) in
+        stays-live (parent ps k) (marks .up k z (w .0)) (omega arith);
   }

@@ -11,7 +11,7 @@ use lib.Seq.{length-take-le}
 use Rattle.layout.specs.Answer.{pick}
 use Rattle.tree.specs.Table.{Table, flags}
 use Rattle.shots.specs.Collected.{alive, placesFrom, keptBy, endsKept, ahead, places, liveNames}
-use Rattle.shots.specs.Facts.{Fit, Hung, Fronted, Gathered}
+use Rattle.shots.specs.Facts.{Fit, Hung, Fronted, Lowered, Gathered}
 
 -- ── lengths ──
 
@@ -60,16 +60,25 @@ module _ {t : Table} (fit : Fit t) where
   pub hung-in : {size : ℕ} → 1024 ≤ size → Hung (length (flags t)) (t .parents) size
   hung-in h = record { hung = λ k l. let n = flags-long in let a = fit .few in let g = fit .hanging .hung k (omega arith) in omega arith }
 
-  pub gathered : {old hs ps es ms ns new : List ℕ} {n a b d e f g : ℕ} → n ≡ alive (flags t) → Fronted (places t) old new a → Fronted (keptBy (λ h. h) (flags t) (t .handles)) (t .handles) hs b
-      → Fronted (keptBy (λ p. getD new p 0) (flags t) (t .parents)) (t .parents) ps d → Fronted (liveNames t) (t .names) ns e → Fronted (endsKept 0 0 (flags t) (t .ends)) (t .ends) es f
-      → Fronted (replicate n 1) (t .marks) ms g → Gathered t old n hs ps es ms ns new
-  gathered {old} {hs} {ps} {es} {ms} {ns} {new} {n} c w h p m e k = record {
-    count = c;
+  pub lowered : {news hs ps es ms ns : List ℕ} {n a b d e f : ℕ} → n ≡ alive (flags t) → Fronted (keptBy (λ h. h) (flags t) (t .handles)) (t .handles) hs a
+      → Fronted (keptBy (λ p. getD news p 0) (flags t) (t .parents)) (t .parents) ps b → Fronted (liveNames t) (t .names) ns d → Fronted (endsKept 0 0 (flags t) (t .ends)) (t .ends) es e
+      → Fronted (replicate n 1) (t .marks) ms f → Lowered t news hs ps es ms ns
+  lowered c h p m e k = record {
     handles = h .list;
-    parents = p .list ∙ ap (λ (l : List ℕ). ahead l (t .parents)) (kept-same (λ q. getD new q 0) (λ q. getD (places t) q 0) (flags t) (t .parents) each);
+    parents = p .list;
     ends = e .list;
     marks = k .list ∙ ap (λ (x : ℕ). ahead (replicate x 1) (t .marks)) c;
     names = m .list;
+  }
+
+  pub gathered : {old hs ps es ms ns new : List ℕ} {n a : ℕ} → n ≡ alive (flags t) → Fronted (places t) old new a → Lowered t new hs ps es ms ns → Gathered t old n hs ps es ms ns new
+  gathered {old} {new = new} c w l = record {
+    count = c;
+    handles = l .handles;
+    parents = l .parents ∙ ap (λ (l : List ℕ). ahead l (t .parents)) (kept-same (λ q. getD new q 0) (λ q. getD (places t) q 0) (flags t) (t .parents) each);
+    ends = l .ends;
+    marks = l .marks;
+    names = l .names;
     news = w .list;
   }
     where

@@ -1,5 +1,6 @@
 pub mod laws
 pub mod Endings
+pub mod Falls
 pub mod Movings
 pub mod Ranked
 pub mod Fits
@@ -7,6 +8,11 @@ pub mod Gatherings
 pub mod Additions
 pub mod Replies
 pub mod Collecting
+pub mod Carrying
 pub mod Deleting
+pub mod Relinks
 pub mod Told
 pub mod Adding
+pub mod Appending
+pub mod Kept
+pub mod Views

@@ -11,8 +11,10 @@ use Rattle.layout.specs.Refusals.{ROOM, PLACE, TABLE}
 use Rattle.layout.specs.Told.{PlacedExactly}
 use Rattle.layout.specs.Written.{Wrote, says, no, answerOf}
 use Rattle.layout.proofs.laws.Told.{Telling, read, plainly, telling-same, Everywhere, everywhere, telling-pick, telling-after, telling-exactly}
+use Rattle.tree.specs.Links.{linksOk, Keeping}
 use Rattle.tree.specs.Path.{saidIf}
 use Rattle.tree.specs.Table.{Table, flags, live, tableAt}
+use Rattle.tree.proofs.laws.Below.{by-mark}
 use Rattle.tree.proofs.laws.Told.{table-telling, name-telling}
 use Rattle.shots.specs.Refusals.{TAKEN}
 use Rattle.shots.specs.Deleted.{ended, deleteSaid}
@@ -52,3 +54,7 @@ added-told {t} {old} {name} {parent} c =
     telling-after (lent-telling t old) λ _ _ _.
     telling-pick (live (flags t) parent) (λ _. telling-after (name-telling name (everywhere name) tt) λ _ _ _. room-telling t (length name)) λ _. plainly PLACE (omega arith)
     ))
+
+-- of a table that keeps its links: nor has the 11 of other links a place
+pub linked-told : {t : Table} {fs ns : List ℕ} {a : Answer (Unit {0})} {P U : Type 0} → Keeping t fs ns a P U → (P → PlacedExactly a) → PlacedExactly a
+linked-told {t} {fs} {ns} k f = by-mark (linksOk t fs ns) (λ e. f (k .own e)) (λ e. telling-exactly (telling-same (k .other e .0) (plainly TABLE (omega arith))))

@@ -85,6 +85,14 @@ pub record Leaves (answer : Answer (Unit {0})) (t u : Table) (hs ps es ms ns : L
   pub marks : ms ≡ leaves answer (u .marks) (t .marks)
   pub names : ns ≡ leaves answer (u .names) (t .names)
 
+-- lists that are a table's
+pub record Lists (t : Table) (hs ps es ms ns : List ℕ) : Type 0 where
+  pub handles : hs ≡ t .handles
+  pub parents : ps ≡ t .parents
+  pub ends : es ≡ t .ends
+  pub marks : ms ≡ t .marks
+  pub names : ns ≡ t .names
+
 -- the new count, or the refusal
 unfoldable pub collectAt : Table → List ℕ → Answer (Unit {0})
 collectAt t old = after (lentAt t old) λ _ _. got tt (alive (flags t))

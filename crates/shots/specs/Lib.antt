@@ -2,4 +2,5 @@ pub mod Refusals
 pub mod Deleted
 pub mod Collected
 pub mod Added
+pub mod Linked
 pub mod Facts

@@ -5,10 +5,13 @@ ghost use lib.Dec.{ltb};
 ghost use lib.ListN.{length, getD, take, drop, replicate};
 ghost use Rattle.layout.specs.Answer.{pick};
 ghost use Rattle.layout.specs.Written.{Put};
-ghost use Rattle.tree.specs.Table.{table};
+ghost use Rattle.tree.specs.Links.{Links};
+ghost use Rattle.tree.specs.Rule.{Rule};
+ghost use Rattle.tree.specs.Table.{table, live};
 ghost use Rattle.tree.specs.Says.{saysChecked};
-ghost use Rattle.shots.specs.Facts.{Rises, Spaced, Hung, Fit, Fronted, Gathered};
-ghost use Rattle.shots.specs.Collected.{GONE, alive, placesFrom, keptBy, endsKept, namesKept, Collected};
+ghost use Rattle.shots.specs.Facts.{Rises, Spaced, Hung, Fit, Fronted, Gathered, Lowered, Blank, Carried, LinksOf};
+ghost use Rattle.shots.specs.Collected.{GONE, alive, placesFrom, keptBy, endsKept, namesKept, collected, Collected};
+ghost use Rattle.shots.specs.Linked.{CollectedLinked};
 use tree::Checked;
 
 // The new place of what has this mark, where so many live ones stand before it.
@@ -62,19 +65,19 @@ fn keep_handles(marks: &[u8], handles: &mut [u32]) -> usize
     n
 }
 
-// Each parent entry is carried to the parent's new place.
-fn keep_parents(marks: &[u8], news: &[u16], parents: &mut [u16]) -> usize
+// Entries that are places, each carried to the new one.
+fn keep_places(marks: &[u8], news: &[u16], list: &mut [u16]) -> usize
     requires { ⌜ length (now marks) ≤ 1024 ⌝ }
-    requires { ⌜ length (now marks) ≤ length (now parents) ⌝ }
-    requires { ⌜ Hung (length (now marks)) (now parents) (length (now news)) ⌝ }
-    ensures { λ r. ⌜ Fronted (keptBy (λ p. getD (now (news .entry)) p 0) (now (marks .entry)) (now (parents .entry))) (now (parents .entry)) (now (parents .exit)) r ⌝ }
+    requires { ⌜ length (now marks) ≤ length (now list) ⌝ }
+    requires { ⌜ Hung (length (now marks)) (now list) (length (now news)) ⌝ }
+    ensures { λ r. ⌜ Fronted (keptBy (λ p. getD (now (news .entry)) p 0) (now (marks .entry)) (now (list .entry))) (now (list .entry)) (now (list .exit)) r ⌝ }
 {
     let mut n: usize = 0;
     let mut k: usize = 0;
     while k < marks.len() {
         if marks[k] != 0 {
-            let p = parents[k] as usize;
-            parents[n] = news[p];
+            let p = list[k] as usize;
+            list[n] = news[p];
             n += 1;
         }
         k += 1;
@@ -152,6 +155,29 @@ fn fill(marks: &mut [u8], n: usize) -> usize
     k
 }
 
+// The n live objects of a table that keeps its rule moved down, by their new places.
+fn move_down(
+    handles: &mut [u32],
+    parents: &mut [u16],
+    ends: &mut [u32],
+    marks: &mut [u8],
+    count: usize,
+    names: &mut [u8],
+    news: &[u16],
+    n: usize,
+)
+    requires { ⌜ Fit (table (now handles) (now parents) (now ends) (now marks) count (now names)) ⌝ }
+    requires { ⌜ length (now news) ≡ 1024 ⌝ }
+    requires { ⌜ n ≡ alive (take count (now marks)) ⌝ }
+    ensures { λ r. ⌜ Lowered (table (now (handles .entry)) (now (parents .entry)) (now (ends .entry)) (now (marks .entry)) count (now (names .entry))) (now (news .entry)) (now (handles .exit)) (now (parents .exit)) (now (ends .exit)) (now (marks .exit)) (now (names .exit)) ⌝ }
+{
+    keep_handles(&marks[..count], handles);
+    keep_places(&marks[..count], news, parents);
+    keep_names(&marks[..count], &*ends, names);
+    keep_ends(&marks[..count], ends);
+    fill(marks, n);
+}
+
 // The live objects of a table that keeps its rule moved down; how many they are.
 pub(crate) fn gather(
     handles: &mut [u32],
@@ -167,11 +193,53 @@ pub(crate) fn gather(
     ensures { λ r. ⌜ Gathered (table (now (handles .entry)) (now (parents .entry)) (now (ends .entry)) (now (marks .entry)) count (now (names .entry))) (now (news .entry)) r (now (handles .exit)) (now (parents .exit)) (now (ends .exit)) (now (marks .exit)) (now (names .exit)) (now (news .exit)) ⌝ }
 {
     let n = number(&marks[..count], news);
-    keep_handles(&marks[..count], handles);
-    keep_parents(&marks[..count], &*news, parents);
-    keep_names(&marks[..count], &*ends, names);
-    keep_ends(&marks[..count], ends);
-    fill(marks, n);
+    move_down(handles, parents, ends, marks, count, names, &*news, n);
+    n
+}
+
+// 0 from a place on.
+fn clear_from(list: &mut [u16], n: usize)
+    ensures { λ r. ⌜ Blank n (now (list .entry)) (now (list .exit)) ⌝ }
+{
+    let mut k = n;
+    while k < list.len() {
+        list[k] = 0;
+        k += 1;
+    }
+}
+
+// Each link carried with its place to the new one; behind the live ones there is none.
+fn carry(marks: &[u8], news: &[u16], links: &mut [u16])
+    requires { ⌜ length (now marks) ≤ 1024 ⌝ }
+    requires { ⌜ length (now marks) ≤ length (now links) ⌝ }
+    requires { ⌜ Hung (length (now marks)) (now links) (length (now news)) ⌝ }
+    ensures { λ r. ⌜ Carried (now (marks .entry)) (now (news .entry)) (now (links .entry)) (now (links .exit)) ⌝ }
+{
+    let n = keep_places(marks, news, links);
+    clear_from(links, n);
+}
+
+// What `gather` does, of a table with its links.
+pub(crate) fn gather_linked(
+    handles: &mut [u32],
+    parents: &mut [u16],
+    ends: &mut [u32],
+    marks: &mut [u8],
+    count: usize,
+    names: &mut [u8],
+    first: &mut [u16],
+    next: &mut [u16],
+    news: &mut [u16],
+) -> usize
+    requires { ⌜ Rule (table (now handles) (now parents) (now ends) (now marks) count (now names)) ⌝ }
+    requires { ⌜ length (now news) ≡ 1024 ⌝ }
+    requires { ⌜ Links (take count (now parents)) (live (take count (now marks))) (now first) (now next) ⌝ }
+    ensures { λ r. ⌜ Gathered (table (now (handles .entry)) (now (parents .entry)) (now (ends .entry)) (now (marks .entry)) count (now (names .entry))) (now (news .entry)) r (now (handles .exit)) (now (parents .exit)) (now (ends .exit)) (now (marks .exit)) (now (names .exit)) (now (news .exit)) × LinksOf (collected (table (now (handles .entry)) (now (parents .entry)) (now (ends .entry)) (now (marks .entry)) count (now (names .entry)))) (now (first .exit)) (now (next .exit)) ⌝ }
+{
+    let n = number(&marks[..count], news);
+    carry(&marks[..count], &*news, first);
+    carry(&marks[..count], &*news, next);
+    move_down(handles, parents, ends, marks, count, names, &*news, n);
     n
 }
 
@@ -198,6 +266,48 @@ pub fn collect(
             marks,
             count,
             names,
+            news,
+        )),
+        Checked::Refused(f) => Checked::Refused(f),
+    }
+}
+
+// What `collect` does, of a table that keeps its links; 11 also for other links than its own.
+pub fn collect_linked(
+    handles: &mut [u32],
+    parents: &mut [u16],
+    ends: &mut [u32],
+    marks: &mut [u8],
+    count: usize,
+    names: &mut [u8],
+    first: &mut [u16],
+    next: &mut [u16],
+    news: &mut [u16],
+) -> Checked
+    ensures { λ r. ⌜ CollectedLinked (table (now (handles .entry)) (now (parents .entry)) (now (ends .entry)) (now (marks .entry)) count (now (names .entry))) (now (first .entry)) (now (next .entry)) (now (news .entry)) (saysChecked r) (now (handles .exit)) (now (parents .exit)) (now (ends .exit)) (now (marks .exit)) (now (names .exit)) (now (first .exit)) (now (next .exit)) (now (news .exit)) ⌝ }
+{
+    if news.len() != 1024 {
+        return Checked::Refused(layout::plain(layout::TABLE));
+    }
+    match tree::check_links(
+        &*handles,
+        &*parents,
+        &*ends,
+        &*marks,
+        count,
+        &*names,
+        &*first,
+        &*next,
+    ) {
+        Checked::Whole(_) => Checked::Whole(gather_linked(
+            handles,
+            parents,
+            ends,
+            marks,
+            count,
+            names,
+            first,
+            next,
             news,
         )),
         Checked::Refused(f) => Checked::Refused(f),

@@ -4,8 +4,11 @@ mod collection;
 mod deletion;
 
 pub use addition::add;
+pub use addition::add_linked;
 pub use collection::collect;
+pub use collection::collect_linked;
 pub use deletion::delete;
+pub use deletion::delete_linked;
 use layout::Refusal;
 
 // The refusal of its own: 1,024 live objects are held.

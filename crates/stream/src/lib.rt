@@ -16,6 +16,7 @@ pub enum Came {
 pub fn read_some(fd: i32, room: &mut [u8], what: &[u8]) -> Came
     ensures { λ r. ⌜ within (length (now (room .entry))) r ⌝ }
 {
+    // A bound that no run reaches, though signals interrupt the call: a loop must have one.
     let mut tries = u64::MAX;
     while tries > 0 {
         let got = libc::read(fd, room);
@@ -47,6 +48,7 @@ fn tell(put: isize, what: &[u8]) {
 fn write_some(fd: i32, bytes: &[u8], what: &[u8]) -> usize
     ensures { λ r. ⌜ r ≤ length (now (bytes .entry)) ⌝ }
 {
+    // A bound that no run reaches, though signals interrupt the call: a loop must have one.
     let mut tries = u64::MAX;
     while tries > 0 {
         let put = libc::write(fd, bytes);

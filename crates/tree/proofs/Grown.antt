@@ -1,25 +1,24 @@
--- The queue grows to the walk: it is the root, and then what hangs under each of its places in turn. A place stands among what hangs under a list as
--- often as its parent stands in that list, so nothing stands twice, and at the end everything once; and what hangs under a list in order is in order.
+-- The queue that begins with the root grows to the walk: what hangs under a list in order is in order, and at the end everything stands once.
 -- Assumes nothing.
 use mathlib.Core.Path.{_≡_, refl, sym, ap, _∙_}
 use mathlib.Core.Bool.{Bool, true, false, _&&_, and-eq-true-iff}
-use mathlib.Core.List.{List, [], _∷_, _++_, append-assoc, append-nil}
-use Prim.Native.Nat.{ℕ, zero, suc, _+_, _-_, _≤_, _<_}
+use mathlib.Core.List.{List, [], _∷_, _++_}
+use Prim.Native.Nat.{ℕ, zero, suc, _-_, _≤_, _<_}
 use native.Mathlib.Nat.{not-suc-le-zero}
-use native.Mathlib.Numerals.{add-one}
 use native.Mathlib.Omega.{arith}
-use borrow.Author.Tests.{ne-eqb, eqb-true, ltb-true, ltb-false}
-use lib.ListN.{length, getD, take, length-append}
-use lib.Seq.{take-suc, take-all, take-append-le}
-use lib.Dec.{eqb, ltb}
+use borrow.Author.Tests.{eqb-true, lt-ltb, le-ltb}
+use lib.Dec.{ltb}
+use lib.ListN.{length, getD, take}
 use Rattle.layout.specs.Answer.{pick}
 use Rattle.tree.specs.Facts.{Ruled, Marks}
 use Rattle.tree.specs.Table.{parent}
-use Rattle.tree.specs.Listed.{times, Every, none, more, Sorted, done, next}
-use Rattle.tree.specs.Way.{Before, Walk}
+use Rattle.tree.specs.Listed.{times, Every, none, more, Sorted, done, next, Listed}
+use Rattle.tree.specs.Way.{way, Before, Walk}
 use Rattle.tree.specs.Kids.{hangs, kidsIn, kids}
-use Rattle.tree.proofs.laws.Counts.{equal, hit, miss, times-append, times-take, pigeon, every-map, every-both, every-append, every-get, every-take}
-use Rattle.tree.proofs.laws.Ways.{Kid, before-root, before-kids, before-beside}
+use Rattle.tree.proofs.laws.Counts.{equal, hit, miss, every-map, every-both, every-append, every-take}
+use Rattle.tree.proofs.laws.Below.{by-mark, kids-root, kids-not, kids-once, below, smaller}
+use Rattle.tree.proofs.laws.Queued.{way-on, Growing, longer, closed, not-there, fallen}
+use Rattle.tree.proofs.laws.Ways.{Kid, way-root, before-root, before-kids, before-beside}
 
 -- ── lists in order ──
 
@@ -30,7 +29,7 @@ module _ {Bef : ℕ → ℕ → Type 0} where
   sorted-take (suc i) (next e s) = next (every-take i e) (sorted-take i s)
 
   -- each of b comes after each of a
-  sorted-append : {a b : List ℕ} → Sorted Bef a → Sorted Bef b → Every (λ y. Every (λ x. Bef x y) a) b → Sorted Bef (a ++ b)
+  pub sorted-append : {a b : List ℕ} → Sorted Bef a → Sorted Bef b → Every (λ y. Every (λ x. Bef x y) a) b → Sorted Bef (a ++ b)
   sorted-append done t f = t
   sorted-append (next e s) t f =
       next (every-append e (every-map (λ y g. first g) f)) (sorted-append s t (every-map (λ y g. others g) f))
@@ -46,79 +45,6 @@ sorted-by : {P : ℕ → Type 0} {R S : ℕ → ℕ → Type 0} {l : List ℕ} �
 sorted-by f none done = done
 sorted-by f (more {x = x} p e) (next g s) = next (every-map (λ y z. f x y p (z .0) (z .1)) (every-both e g)) (sorted-by f e s)
 
--- ── how often a place stands among those with the parent p ──
-
-skip : (x k : ℕ) (b : Bool) (l : List ℕ) → (x ≡ k → ⊥) → times x (pick b (k ∷ l) l) ≡ times x l
-skip x k true l e = miss x k l e
-skip x k false l e = refl
-
-met : (x k : ℕ) (b : Bool) (l : List ℕ) → x ≡ k → times x l ≡ 0 → times x (pick b (k ∷ l) l) ≡ pick b 1 0
-met x k true l e z = let h = hit x k l e in omega arith
-met x k false l e z = z
-
-by-less : {X : Type 0} (a b : ℕ) (t : Bool) → ltb a b ≡ t → (a < b → X) → (b ≤ a → X) → X
-by-less a b true e f g = f (ltb-true a b e)
-by-less a b false e f g = g (ltb-false a b e)
-
--- marked or not
-pub by-mark : {X : Type 0} (b : Bool) → (b ≡ true → X) → (b ≡ false → X) → X
-by-mark true f g = f refl
-by-mark false f g = g refl
-
-pub clash : (b : Bool) → b ≡ true → b ≡ false → ⊥
-clash b p q = let z : _≡_ {A = ℕ} 0 1 = cc in omega arith
-
-module _ (ps : List ℕ) (has : ℕ → Bool) where
-  front : (m k p x : ℕ) → x < k → times x (kidsIn m ps has k p) ≡ 0
-  unfolding kidsIn
-  front zero k p x h = refl
-  front (suc m) k p x h = skip x k (hangs ps has p k) (kidsIn m ps has (suc k) p) (λ e. omega arith) ∙ front m (suc k) p x (omega arith)
-
-  behind : (m k p x : ℕ) → k + m ≤ x → times x (kidsIn m ps has k p) ≡ 0
-  unfolding kidsIn
-  behind zero k p x h = refl
-  behind (suc m) k p x h = skip x k (hangs ps has p k) (kidsIn m ps has (suc k) p) (λ e. omega arith) ∙ behind m (suc k) p x (omega arith)
-
-  amid : (m k p x : ℕ) → k ≤ x → x < k + m → times x (kidsIn m ps has k p) ≡ pick (hangs ps has p x) 1 0
-  unfolding kidsIn
-  amid zero k p x h j = absurd (omega arith)
-  amid (suc m) k p x h j =
-      equal x k
-      (λ e. met x k (hangs ps has p k) (kidsIn m ps has (suc k) p) e (front m (suc k) p x (omega arith)) ∙ ap (λ (n : ℕ). pick (hangs ps has p n) 1 0) (sym e))
-      (λ e. skip x k (hangs ps has p k) (kidsIn m ps has (suc k) p) e ∙ amid m (suc k) p x (omega arith) (omega arith))
-
-  kids-root : (p : ℕ) → times 0 (kids ps has p) ≡ 0
-  unfolding kids
-  kids-root p = front _ (suc p) p 0 (omega arith)
-
-  -- a place that is not marked stands there never
-  kids-not : (p x : ℕ) → has x ≡ false → times x (kids ps has p) ≡ 0
-  unfolding kids
-  kids-not p x e =
-      by-less x (suc p) _ refl
-      (λ l. front _ (suc p) p x l)
-      (λ l. by-less x (suc p + (length ps - suc p)) _ refl
-      (λ j. amid _ (suc p) p x l j ∙ ap (λ (b : Bool). pick {A = ℕ} (b && eqb (parent ps x) p) 1 0) e)
-      (λ j. behind _ (suc p) p x j))
-
-  -- a marked one once under its parent, and under no other
-  kids-once : (p x : ℕ) → has x ≡ true → parent ps x < x → x < length ps → times x (kids ps has p) ≡ pick (eqb (parent ps x) p) 1 0
-  unfolding kids
-  kids-once p x e h l =
-      by-less x (suc p) _ refl
-      (λ z. front _ (suc p) p x z ∙ sym (ap (λ (b : Bool). pick {A = ℕ} b 1 0) (ne-eqb (parent ps x) p (λ q. omega arith))))
-      (λ z. amid _ (suc p) p x z (omega arith) ∙ ap (λ (b : Bool). pick {A = ℕ} (b && eqb (parent ps x) p) 1 0) e)
-
--- ── what hangs under each of a list ──
-
-abbrev pub below : List ℕ → (ℕ → Bool) → List ℕ → List ℕ
-below ps has [] = []
-below ps has (p ∷ l) = kids ps has p ++ below ps has l
-
-below-append : (ps : List ℕ) (has : ℕ → Bool) (a b : List ℕ) → below ps has (a ++ b) ≡ below ps has a ++ below ps has b
-below-append ps has [] b = refl
-below-append ps has (x ∷ a) b = rw (below-append ps has a b, append-assoc)
-
 -- x is marked and at least k, and its parent is p
 record From (ps : List ℕ) (has : ℕ → Bool) (k p x : ℕ) : Type 0 where
   least : k ≤ x
@@ -130,36 +56,7 @@ record Place (ps : List ℕ) (x : ℕ) : Type 0 where
   some : 0 < x
   there : x < length ps
 
--- the queue q, the first i of which are done: the root, and then what hangs under those i in turn
-pub record Grown (ps : List ℕ) (has : ℕ → Bool) (i : ℕ) (q : List ℕ) : Type 0 where
-  pub fits : i ≤ length q
-  pub grows : q ≡ 0 ∷ below ps has (take i q)
-  pub order : Sorted (Before ps) q
-
 module _ (ps : List ℕ) (rule : Ruled ps) (has : ℕ → Bool) (marks : Marks ps has) where
-  below-not : (x : ℕ) (l : List ℕ) → has x ≡ false → times x (below ps has l) ≡ 0
-  below-not x [] h = refl
-  below-not x (p ∷ l) h =
-      let a = times-append x (kids ps has p) (below ps has l) in let b = kids-not ps has p x h in let d = below-not x l h in omega arith
-
-  below-root : (l : List ℕ) → times 0 (below ps has l) ≡ 0
-  below-root [] = refl
-  below-root (p ∷ l) =
-      let a = times-append 0 (kids ps has p) (below ps has l) in let b = kids-root ps has p in let d = below-root l in omega arith
-
-  smaller : (x : ℕ) → 0 < x → has x ≡ true → parent ps x < x
-  smaller x h e = rule .smaller x h (marks .place x e)
-
-  -- a marked place stands there as often as its parent stands in the list
-  below-times : (x : ℕ) (l : List ℕ) → 0 < x → has x ≡ true → times x (below ps has l) ≡ times (parent ps x) l
-  below-times x [] h e = refl
-  below-times x (p ∷ l) h e =
-      let a = times-append x (kids ps has p) (below ps has l) in
-      let b = kids-once ps has p x e (smaller x h e) (marks .place x e) in
-      let d = below-times x l h e in omega arith
-
-  -- ── and in which order ──
-
   every-in : (m k p : ℕ) → 0 < k → m ≤ length ps - k → Every (From ps has k p) (kidsIn m ps has k p)
   unfolding kidsIn
   every-in zero k p h j = none
@@ -182,13 +79,24 @@ module _ (ps : List ℕ) (rule : Ruled ps) (has : ℕ → Bool) (marks : Marks p
       put true f s = next {x = k} (every-map (λ x g. let z = g .least in omega arith) f) s
       put false f s = s
 
-  every-kid : (p : ℕ) → Every (Kid ps p) (kids ps has p)
+  pub every-kid : (p : ℕ) → Every (Kid ps p) (kids ps has p)
   unfolding kids
   every-kid p = every-map (λ x f. f .kid) (every-in _ (suc p) p (omega arith) (omega arith))
 
-  rising-kids : (p : ℕ) → Sorted _<_ (kids ps has p)
+  pub rising-kids : (p : ℕ) → Sorted _<_ (kids ps has p)
   unfolding kids
   rising-kids p = sorted-in _ (suc p) p (omega arith) (omega arith)
+
+  -- the live places with the parent p, each once, in rising order
+  pub kids-listed : (p : ℕ) → Listed (λ x. ltb 0 x && hangs ps has p x) _<_ (kids ps has p)
+  kids-listed p = record {
+    once = λ x. equal x 0
+        (λ e. rw e (kids-root ps has p ∙ sym (ap (λ (b : Bool). pick {A = ℕ} (b && hangs ps has p 0) 1 0) (le-ltb 0 0 (omega arith)))))
+        (λ e. by-mark (has x)
+        (λ m. let h : 0 < x = omega arith in rw (lt-ltb 0 x h, m) (kids-once ps has p x m (smaller ps rule has marks x h m) (marks .place x m)))
+        (λ m. rw (lt-ltb 0 x (omega arith), m) (kids-not ps has p x m)));
+    order = rising-kids p;
+  }
 
   sorted-kids : (p : ℕ) → Sorted (Before ps) (kids ps has p)
   sorted-kids p = sorted-by (λ x y k j h. before-beside ps rule h k j) (every-kid p) (rising-kids p)
@@ -212,84 +120,27 @@ module _ (ps : List ℕ) (rule : Ruled ps) (has : ℕ → Bool) (marks : Marks p
 
   -- ── the queue ──
 
-  pub start : Grown ps has 0 (0 ∷ [])
-  start = record { fits = omega arith; grows = refl; order = next none done }
+  pub order-turn : {i : ℕ} {q : List ℕ} (g : Growing ps has 0 i q) → i < length q → Sorted (Before ps) q → Sorted (Before ps) (q ++ kids ps has (getD q i 0))
+  order-turn {i} {q} g h o = rw (longer ps rule has marks 0 (marks .root) g h) (sorted-grown (take (suc i) q) (sorted-take (suc i) o))
 
-  module _ {i : ℕ} {q : List ℕ} (g : Grown ps has i q) where
-    count-grown : (x : ℕ) → times x q ≡ times x (0 ∷ below ps has (take i q))
-    count-grown x = ap (times x) (g .grows)
+  pub root-by : (f x : ℕ) → x < f → x < length ps → times 0 (way ps x) ≡ 1
+  root-by zero x h l = absurd (not-suc-le-zero h)
+  root-by (suc f) x h l =
+      equal x 0
+      (λ e. rw e (ap (times 0) (way-root ps) ∙ hit 0 0 [] refl))
+      (λ e. let s : 0 < x = omega arith in
+      let r = rule .smaller x s l in
+      let w = way-on ps rule 0 x s l in
+      let z = miss 0 x [] (λ q. omega arith) in
+      let i = root-by f (parent ps x) (omega arith) (omega arith) in
+      omega arith)
 
-    -- what is not marked does not stand there
-    not-there : (x : ℕ) → has x ≡ false → times x q ≡ 0
-    not-there x e =
-        let a = count-grown x in
-        let b = miss x 0 (below ps has (take i q)) (λ z. clash (has 0) (marks .root) (rw z at e)) in
-        let d = below-not x (take i q) e in omega arith
-
-    -- no place stands twice
-    few : (f x : ℕ) → x < f → times x q ≤ 1
-    few zero x h = absurd (not-suc-le-zero h)
-    few (suc f) x h =
-        by-mark (has x)
-        (λ m. equal x 0
-        (λ e. rw e (let a = count-grown 0 in let b = hit 0 0 (below ps has (take i q)) refl in let d = below-root (take i q) in omega arith))
-        (λ e. let s : 0 < x = omega arith in
-        let a = count-grown x in
-        let b = miss x 0 (below ps has (take i q)) e in
-        let d = below-times x (take i q) s m in
-        let t = times-take (parent ps x) i q in
-        let r = smaller x s m in
-        let o = few f (parent ps x) (omega arith) in omega arith))
-        (λ m. let z = not-there x m in omega arith)
-
-    pub room : length q ≤ length ps
-    room = pigeon (length ps) q (λ x. few (suc x) x (omega arith))
-        (λ x l. by-mark (has x) (λ m. absurd (let h = marks .place x m in omega arith)) (not-there x))
-
-    every-place : Every (λ x. x < length ps) q
-    every-place = rw (g .grows) (more (rule .some) (every-map (λ x k. k .there) (every-below (take i q))))
-
-    pub place : (j : ℕ) → j < length q → getD q j 0 < length ps
-    place j h = every-get j every-place h
-
-    module _ (h : i < length q) where
-      longer : q ++ kids ps has (getD q i 0) ≡ 0 ∷ below ps has (take (suc i) q)
-      longer =
-          let a : take (suc i) q ≡ take i q ++ (getD q i 0 ∷ []) = take-suc q i 0 h in
-          let b = below-append ps has (take i q) (getD q i 0 ∷ []) in
-          let e : q ++ kids ps has (getD q i 0) ≡ (0 ∷ below ps has (take i q)) ++ kids ps has (getD q i 0) = ap (λ (l : List ℕ). l ++ kids ps has (getD q i 0)) (g .grows) in
-          e ∙ ap (λ (l : List ℕ). 0 ∷ l) (sym (rw a (b ∙ ap (λ (l : List ℕ). below ps has (take i q) ++ l) (append-nil (kids ps has (getD q i 0))))))
-
-      pub turn : Grown ps has (i + 1) (q ++ kids ps has (getD q i 0))
-      turn =
-          let t : take (i + 1) (q ++ kids ps has (getD q i 0)) ≡ take (suc i) q = rw (add-one i) (take-append-le (suc i) q (kids ps has (getD q i 0)) (omega arith)) in
-          record {
-            fits = rw length-append (omega arith);
-            grows = longer ∙ ap (λ (l : List ℕ). 0 ∷ below ps has l) (sym t);
-            order = rw longer (sorted-grown (take (suc i) q) (sorted-take (suc i) (g .order)));
-          }
-
-    -- where all are done, each marked place stands once
-    module _ (h : length q ≤ i) where
-      closed : q ≡ 0 ∷ below ps has q
-      closed = g .grows ∙ ap (λ (l : List ℕ). 0 ∷ below ps has l) (take-all i q h)
-
-      one : (f x : ℕ) → x < f → has x ≡ true → times x q ≡ 1
-      one zero x j m = absurd (not-suc-le-zero j)
-      one (suc f) x j m =
-          let a : times x q ≡ times x (0 ∷ below ps has q) = ap (times x) closed in
-          equal x 0
-          (λ e. let b = hit x 0 (below ps has q) e in let d : times x (below ps has q) ≡ 0 = rw e (below-root q) in omega arith)
-          (λ e. let s : 0 < x = omega arith in
-          let b = miss x 0 (below ps has q) e in
-          let d = below-times x q s m in
-          let r = smaller x s m in
-          let o = one f (parent ps x) (omega arith) (marks .up x s m) in omega arith)
-
-      pub end : Walk ps has q
-      end = record {
-        once = λ k. by-mark (has k)
-            (λ m. one (suc k) k (omega arith) m ∙ sym (ap (λ (b : Bool). pick {A = ℕ} b 1 0) m))
-            (λ m. not-there k m ∙ sym (ap (λ (b : Bool). pick {A = ℕ} b 1 0) m));
-        order = g .order;
-      }
+  -- where every turn is taken each live place stands once, since each way starts at the root
+  pub order-end : {i : ℕ} {q : List ℕ} → Growing ps has 0 i q → length q ≤ i → Sorted (Before ps) q → Walk ps has q
+  order-end {i} {q} g h o = record {
+    once = λ k. by-mark (has k)
+        (λ m. fallen ps rule has marks 0 q (closed ps rule has marks 0 (marks .root) g h) k m ∙ root-by (suc k) k (omega arith) (marks .place k m)
+        ∙ sym (ap (λ (b : Bool). pick {A = ℕ} b 1 0) m))
+        (λ m. not-there ps rule has marks 0 (marks .root) g k m ∙ sym (ap (λ (b : Bool). pick {A = ℕ} b 1 0) m));
+    order = o;
+  }

@@ -5,4 +5,11 @@ pub mod Tables
 pub mod Exact
 pub mod Scans
 pub mod Routes
+pub mod Onward
+pub mod Copied
 pub mod Trails
+pub mod Passing
+pub mod Linked
+pub mod Folding
+pub mod Viewing
+pub mod FolderView

@@ -16,14 +16,16 @@ use Rattle.layout.specs.Written.{says, no, Wrote, Put, leftOf}
 use Rattle.layout.proofs.laws.Numbers.{zero-one}
 use Rattle.layout.proofs.laws.Writing.{refusal, no-room, done}
 use Rattle.layout.specs.Refusals.{ROOM}
-use Rattle.tree.specs.Facts.{Ruled, Kept, Marks, Listing}
-use Rattle.tree.specs.Listed.{times, Every, none, more}
-use Rattle.tree.specs.Table.{Table, rows, stops, flags, live, tableAt}
+use Rattle.tree.specs.Facts.{Ruled, Kept, Marks, Listing, PathsGiven}
+use Rattle.tree.specs.Listed.{times, Every, none, more, Listed}
+use Rattle.tree.specs.Table.{Table, rows, stops, flags, live, parent, tableAt}
 use Rattle.tree.specs.Way.{Walk}
 use Rattle.tree.specs.Path.{pathOf, joined, endsFrom, pathsSaid, endsSaid, Walked, AllPaths}
 use Rattle.tree.specs.Says.{Walks}
 use Rattle.tree.proofs.laws.Counts.{hit, pigeon}
+use Rattle.tree.proofs.Onward.{deeper, above-it}
 use Rattle.tree.proofs.Routes.{path-short}
+use Rattle.tree.proofs.laws.Ways.{never}
 
 -- ── one at a time ──
 
@@ -44,7 +46,7 @@ module _ (ps es ns l : List ℕ) (i : ℕ) where
   unfolding endsFrom
   ends-none h at = rw (drop-of-length-le l)
 
-ends-long : (ps es ns l : List ℕ) (at : ℕ) → length (endsFrom at ps es ns l) ≡ length l
+pub ends-long : (ps es ns l : List ℕ) (at : ℕ) → length (endsFrom at ps es ns l) ≡ length l
 unfolding endsFrom
 ends-long ps es ns [] at = refl
 ends-long ps es ns (k ∷ l) at = ap suc (ends-long ps es ns l (at + length (pathOf ps es ns k)))
@@ -61,7 +63,7 @@ joined-few ps es ns rule h (more {x = k} {l = l} p e) =
 pub joined-short : {ps es ns l : List ℕ} → Listing ps es ns l → Bytes ns → length (joined ps es ns l) ≤ 1066401792
 joined-short {ps} {es} {ns} {l} g h = omega (arith, joined-few ps es ns (g .kept .ruling) h (g .places), g .few)
 
--- ── the walk's places ──
+-- ── the places that are listed ──
 
 every-there : {P : ℕ → Type 0} (l : List ℕ) → ((k : ℕ) → 0 < times k l → P k) → Every P l
 every-there [] f = none
@@ -71,12 +73,22 @@ once-there : (n k t : ℕ) (b : Bool) → (b ≡ true → k < n) → t ≡ pick 
 once-there n k t true e h = let j = e refl in (omega arith, λ p. j, λ p. absurd (omega arith))
 once-there n k t false e h = (omega arith, λ p. absurd (omega arith), λ p. h)
 
+module _ {ps l : List ℕ} {has : ℕ → Bool} {B : ℕ → ℕ → Type 0} (marks : Marks ps has) (w : Listed has B l) where
+  listed-at : (k : ℕ) → (times k l ≤ 1) × (0 < times k l → k < length ps) × (length ps ≤ k → times k l ≡ 0)
+  listed-at k = once-there (length ps) k (times k l) (has k) (marks .place k) (w .once k)
+
+  pub listed-few : length l ≤ length ps
+  listed-few = pigeon (length ps) l (λ k. listed-at k .0) (λ k. listed-at k .2)
+
+  -- listed in an order in which a parent is before its children
+  pub listing-by : {es ns : List ℕ} → Kept ps es ns → ((a b : ℕ) → B a b → B b a → ⊥) → ((k : ℕ) → 0 < k → k < length ps → B (parent ps k) k) → Listing ps es ns l
+  listing-by kept not-both up-first =
+      let few = listed-few in
+      let most = kept .ruling .few in
+      record { kept = kept; places = every-there l (λ k. listed-at k .1); above = above-it ps (kept .ruling) marks not-both up-first w; few = omega arith }
+
 pub listing : {ps es ns l : List ℕ} {has : ℕ → Bool} → Kept ps es ns → Marks ps has → Walk ps has l → Listing ps es ns l
-listing {ps} {es} {ns} {l} {has} kept marks w =
-    let at : (k : ℕ) → (times k l ≤ 1) × (0 < times k l → k < length ps) × (length ps ≤ k → times k l ≡ 0) = λ k. once-there (length ps) k (times k l) (has k) (marks .place k) (w .once k) in
-    let few = pigeon (length ps) l (λ k. at k .0) (λ k. at k .2) in
-    let most = kept .ruling .few in
-    record { kept = kept; places = every-there l (λ k. at k .1); few = omega arith }
+listing {ps} kept marks w = listing-by marks w kept (never ps) (deeper ps (kept .ruling))
 
 -- the front of the queue is the walk
 pub front : {ps old new : List ℕ} {has : ℕ → Bool} {n : ℕ} → Walks ps has old n new → Walk ps has (take n new) × (length (take n new) ≡ n) × (n ≤ length new)
@@ -105,58 +117,48 @@ module _ (t : Table) (out ends : List ℕ) where
     left = rw (← e);
   }
 
-  module _ {n : ℕ} (e : got tt n ≡ tableAt t) (l : List ℕ) (w : Walk (rows t) (live (flags t)) l) where
-    abbrev bytes : List ℕ
-    bytes = joined (rows t) (stops t) (t .names) l
+  pub all-given : {n : ℕ} {l out′ ends′ : List ℕ} {a : Answer (Unit {0})} → got tt n ≡ tableAt t → Walk (rows t) (live (flags t)) l
+      → PathsGiven (rows t) (stops t) (t .names) l out ends a out′ ends′ → AllPaths t out ends a out′ ends′
+  unfolding pathsSaid endsSaid
+  all-given {l = l} e w g = record { order = l; walked = λ n f. w; wrote = rw (← e) (g .wrote); left = rw (← e) (g .left) }
 
-    abbrev places : List ℕ
-    places = endsFrom 0 (rows t) (stops t) (t .names) l
+-- by the room that the outputs have
+module _ (ps es ns l out ends : List ℕ) where
+  abbrev bytes : List ℕ
+  bytes = joined ps es ns l
 
-    places-long : length places ≡ length l
-    places-long = ends-long (rows t) (stops t) (t .names) l 0
+  abbrev places : List ℕ
+  places = endsFrom 0 ps es ns l
 
-    said-paths : length l ≤ length ends → pathsSaid t l (length ends) ≡ says bytes
-    unfolding pathsSaid
-    said-paths h = rw (← e, le-leb (length l) (length ends) h)
+  said-ends : length bytes ≤ length out → pick (leb (length bytes) (length out)) (says places) (no (bare ROOM)) ≡ says places
+  said-ends k = rw (le-leb (length bytes) (length out) k)
 
-    said-no-paths : length ends < length l → pathsSaid t l (length ends) ≡ no (bare ROOM)
-    unfolding pathsSaid
-    said-no-paths h = rw (← e, lt-leb (length l) (length ends) h)
+  said-no-ends : length out < length bytes → pick (leb (length bytes) (length out)) (says places) (no (bare ROOM)) ≡ no (bare ROOM)
+  said-no-ends k = rw (lt-leb (length bytes) (length out) k)
 
-    said-ends : length bytes ≤ length out → endsSaid t l (length out) ≡ says places
-    unfolding endsSaid
-    said-ends h = rw (← e, le-leb (length bytes) (length out) h)
+  -- too few ends: they are left as they are, whether the bytes have room or not
+  pub given-no-ends : {why : Told} → why ≡ bare ROOM → length ends < length l → PathsGiven ps es ns l out ends (refused why) out ends
+  given-no-ends f h = record {
+    wrote = refusal (rw (lt-leb (length l) (length ends) h) (ap no (sym f)));
+    left = either (leb (length bytes) (length out)) refl;
+  }
+    where
+      either : (b : Bool) → leb (length bytes) (length out) ≡ b → ends ≡ leftOf (pick (leb (length bytes) (length out)) (says places) (no (bare ROOM))) ends
+      either true q = no-room {out = ends} (said-ends (leb-true (length bytes) (length out) q)) (omega (arith, ends-long ps es ns l 0)) refl .leaves
+      either false q = refusal (said-no-ends (leb-false (length bytes) (length out) q)) .leaves
 
-    said-no-ends : length out < length bytes → endsSaid t l (length out) ≡ no (bare ROOM)
-    unfolding endsSaid
-    said-no-ends h = rw (← e, lt-leb (length bytes) (length out) h)
+  module _ (h : length l ≤ length ends) where
+    said-paths : pick (leb (length l) (length ends)) (says bytes) (no (bare ROOM)) ≡ says bytes
+    said-paths = rw (le-leb (length l) (length ends) h)
 
-    -- too few ends: they are left as they are, whether the bytes have room or not
-    pub all-no-ends : {why : Told} → why ≡ bare ROOM → length ends < length l → AllPaths t out ends (refused why) out ends
-    all-no-ends f h = record {
-      order = l;
-      walked = λ n e. w;
-      wrote = refusal (said-no-paths h ∙ ap no (sym f));
-      left = either (leb (length bytes) (length out)) refl;
+    pub given-no-room : {why : Told} → why ≡ bare ROOM → length out < length bytes → PathsGiven ps es ns l out ends (refused why) out ends
+    given-no-room f k = record {
+      wrote = no-room said-paths k f;
+      left = refusal (said-no-ends k) .leaves;
     }
-      where
-        either : (b : Bool) → leb (length bytes) (length out) ≡ b → ends ≡ leftOf (endsSaid t l (length out)) ends
-        either true q = no-room {out = ends} (said-ends (leb-true (length bytes) (length out) q)) (omega (arith, places-long)) refl .leaves
-        either false q = refusal (said-no-ends (leb-false (length bytes) (length out) q)) .leaves
 
-    module _ (h : length l ≤ length ends) where
-      pub all-no-room : {why : Told} → why ≡ bare ROOM → length out < length bytes → AllPaths t out ends (refused why) out ends
-      all-no-room f k = record {
-        order = l;
-        walked = λ n e. w;
-        wrote = no-room (said-paths h) k f;
-        left = refusal (said-no-ends k) .leaves;
-      }
-
-      pub all-done : {out′ ends′ : List ℕ} {n m : ℕ} → length bytes ≤ length out → Put out 0 bytes out′ n → Put ends 0 places ends′ m → AllPaths t out ends (got tt n) out′ ends′
-      all-done k p q = record {
-        order = l;
-        walked = λ n e. w;
-        wrote = done (said-paths h) k p;
-        left = done (said-ends k) (omega (arith, places-long)) q .leaves;
-      }
+    pub given-done : {out′ ends′ : List ℕ} {n m : ℕ} → length bytes ≤ length out → Put out 0 bytes out′ n → Put ends 0 places ends′ m → PathsGiven ps es ns l out ends (got tt n) out′ ends′
+    given-done k p q = record {
+      wrote = done said-paths k p;
+      left = done (said-ends k) (omega (arith, ends-long ps es ns l 0)) q .leaves;
+    }

@@ -1,4 +1,4 @@
--- What the code's inner loop finds: the places with a given parent. No public promise names these.
+-- The live places with a given parent, in rising order.
 -- Assumes nothing.
 use mathlib.Core.Bool.{Bool, _&&_}
 use mathlib.Core.List.{List, [], _∷_}

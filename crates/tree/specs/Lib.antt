@@ -6,3 +6,6 @@ pub mod Path
 pub mod Says
 pub mod Facts
 pub mod Kids
+pub mod Links
+pub mod Below
+pub mod View

@@ -14,7 +14,7 @@ use crate::name;
 use crate::table;
 use layout::Written;
 
-pub(crate) fn path_len(parents: &[u16], ends: &[u32], names: &[u8], place: usize) -> usize
+fn path_len(parents: &[u16], ends: &[u32], names: &[u8], place: usize) -> usize
     requires { ⌜ Kept (now parents) (now ends) (now names) ⌝ }
     requires { ⌜ place < length (now parents) ⌝ }
     ensures { λ r. ⌜ r ≡ length (pathOf (now (parents .entry)) (now (ends .entry)) (now (names .entry)) place) ⌝ }
@@ -29,7 +29,7 @@ pub(crate) fn path_len(parents: &[u16], ends: &[u32], names: &[u8], place: usize
 }
 
 // A slash, unless nothing was written from `from` on.
-fn slash(out: &mut [u8], from: usize, o: usize) -> usize
+pub(crate) fn slash(out: &mut [u8], from: usize, o: usize) -> usize
     ensures { λ r. ⌜ Put (now (out .entry)) o (roomed (now (out .entry)) o (pick (eqb o from) [] (0x2F ∷ []))) (now (out .exit)) r ⌝ }
 {
     if o == from {
@@ -39,7 +39,7 @@ fn slash(out: &mut [u8], from: usize, o: usize) -> usize
 }
 
 // The parent's place is smaller, so the calls end at the root.
-pub(crate) fn put_path(
+fn put_path(
     parents: &[u16],
     ends: &[u32],
     names: &[u8],

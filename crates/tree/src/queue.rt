@@ -1,59 +1,30 @@
 // The walk of a table, breadth first, by a fixed queue.
-ghost use Prim.Native.Nat.{_+_, _≤_, _<_};
+ghost use Prim.Native.Nat.{_≤_};
 ghost use lib.ListN.{length};
-ghost use Rattle.layout.specs.Written.{Put, Wrote, says, saysWritten};
+ghost use Rattle.layout.specs.Written.{Wrote, says, saysWritten};
 ghost use mathlib.Core.Path.{_≡_};
 ghost use Rattle.tree.specs.Facts.{Ruled, Marks};
 ghost use Rattle.tree.specs.Table.{table, live};
-ghost use Rattle.tree.specs.Kids.{hangs, kids};
+ghost use Rattle.tree.specs.Links.{Linking, Keeping};
 ghost use Rattle.tree.specs.Path.{Walked};
 ghost use Rattle.tree.specs.Says.{Walks, OrderSays};
 use crate::Checked;
 use crate::Order;
+use crate::linking;
 use crate::table;
 use layout::Written;
 
-// Whether a place is live and its parent is `p`.
-fn hangs(parents: &[u16], marks: &[u8], p: usize, k: usize) -> bool
-    requires { ⌜ k < length (now parents) ⌝ }
-    requires { ⌜ length (now marks) ≡ length (now parents) ⌝ }
-    ensures { λ r. ⌜ r ≡ hangs (now (parents .entry)) (live (now (marks .entry))) p k ⌝ }
-{
-    if marks[k] == 0 {
-        return false;
-    }
-    parents[k] as usize == p
-}
-
-// Puts the live places whose parent is `p` behind the first `count`. Where all places are there, none is left to look for.
-fn add_kids(parents: &[u16], marks: &[u8], p: usize, places: &mut [u16], count: usize) -> usize
-    requires { ⌜ length (now parents) ≤ 1024 ⌝ }
-    requires { ⌜ length (now marks) ≡ length (now parents) ⌝ }
-    requires { ⌜ p < length (now parents) ⌝ }
-    requires { ⌜ count + length (kids (now parents) (live (now marks)) p) ≤ length (now parents) ⌝ }
-    requires { ⌜ length (now parents) ≤ length (now places) ⌝ }
-    ensures { λ r. ⌜ Put (now (places .entry)) count (kids (now (parents .entry)) (live (now (marks .entry))) p) (now (places .exit)) r ⌝ }
-{
-    if count == parents.len() {
-        return count;
-    }
-    let mut n = count;
-    let mut k = p + 1;
-    while k < parents.len() {
-        if hangs(parents, marks, p, k) {
-            places[n] = k as u16;
-            n += 1;
-        }
-        k += 1;
-    }
-    n
-}
-
-// The places of a table that keeps its rule: `places` is the queue, whose first `i` are done.
-pub(crate) fn walk_ruled(parents: &[u16], marks: &[u8], places: &mut [u16]) -> usize
+// The places of a table that keeps its rule, by its links: `places` is the queue, whose first `i` are done. `parents` and `marks` say whose links they are.
+pub(crate) fn walk_ruled(
+    parents: &[u16],
+    marks: &[u8],
+    first: &[u16],
+    next: &[u16],
+    places: &mut [u16],
+) -> usize
     requires { ⌜ Ruled (now parents) ⌝ }
-    requires { ⌜ length (now marks) ≡ length (now parents) ⌝ }
     requires { ⌜ Marks (now parents) (live (now marks)) ⌝ }
+    requires { ⌜ Linking (now parents) (live (now marks)) 1 (now first) (now next) ⌝ }
     requires { ⌜ length (now parents) ≤ length (now places) ⌝ }
     ensures { λ r. ⌜ Walks (now (parents .entry)) (live (now (marks .entry))) (now (places .entry)) r (now (places .exit)) ⌝ }
 {
@@ -62,10 +33,24 @@ pub(crate) fn walk_ruled(parents: &[u16], marks: &[u8], places: &mut [u16]) -> u
     let mut i: usize = 0;
     while i < count {
         let p = places[i] as usize;
-        count = add_kids(parents, marks, p, places, count);
+        count = linking::put_chain(next, first[p], places, count);
         i += 1;
     }
     count
+}
+
+// The places of a table that keeps its rule; its links are made first.
+pub(crate) fn walk_made(parents: &[u16], marks: &[u8], places: &mut [u16]) -> usize
+    requires { ⌜ Ruled (now parents) ⌝ }
+    requires { ⌜ length (now marks) ≡ length (now parents) ⌝ }
+    requires { ⌜ Marks (now parents) (live (now marks)) ⌝ }
+    requires { ⌜ length (now parents) ≤ length (now places) ⌝ }
+    ensures { λ r. ⌜ Walks (now (parents .entry)) (live (now (marks .entry))) (now (places .entry)) r (now (places .exit)) ⌝ }
+{
+    let mut first = [0u16; 1024];
+    let mut next = [0u16; 1024];
+    linking::link_ruled(parents, marks, &mut first, &mut next);
+    walk_ruled(parents, marks, &first, &next, places)
 }
 
 // The walk of a table, or its refusal.
@@ -82,7 +67,7 @@ pub fn walk(
     let mut places = [0u16; 1024];
     match table::check_table(handles, parents, ends, marks, count, names) {
         Checked::Whole(_) => {
-            let n = walk_ruled(&parents[..count], &marks[..count], &mut places);
+            let n = walk_made(&parents[..count], &marks[..count], &mut places);
             Order {
                 refusal: layout::plain(0),
                 count: n,
@@ -98,7 +83,7 @@ pub fn walk(
 }
 
 // These places at the front of what was lent; 9 where it is shorter.
-fn give(order: &[u16], places: &mut [u16]) -> Written
+pub(crate) fn give(order: &[u16], places: &mut [u16]) -> Written
     ensures { λ r. ⌜ Wrote (says (now (order .entry))) (now (places .entry)) (saysWritten r) (now (places .exit)) ⌝ }
 {
     if places.len() < order.len() {
@@ -127,7 +112,31 @@ pub fn walk_into(
     match table::check_table(handles, parents, ends, marks, count, names) {
         Checked::Whole(_) => {
             let mut queue = [0u16; 1024];
-            let n = walk_ruled(&parents[..count], &marks[..count], &mut queue);
+            let n = walk_made(&parents[..count], &marks[..count], &mut queue);
+            give(&queue[..n], places)
+        }
+        Checked::Refused(f) => Written::Refused(f),
+    }
+}
+
+// The same of a table that keeps its links.
+pub fn walk_linked(
+    handles: &[u32],
+    parents: &[u16],
+    ends: &[u32],
+    marks: &[u8],
+    count: usize,
+    names: &[u8],
+    first: &[u16],
+    next: &[u16],
+    places: &mut [u16],
+) -> Written
+    ensures { λ r. ⌜ Keeping (table (now (handles .entry)) (now (parents .entry)) (now (ends .entry)) (now (marks .entry)) count (now (names .entry))) (now (first .entry)) (now (next .entry)) (saysWritten r) (Walked (table (now (handles .entry)) (now (parents .entry)) (now (ends .entry)) (now (marks .entry)) count (now (names .entry))) (now (places .entry)) (saysWritten r) (now (places .exit))) (now (places .exit) ≡ now (places .entry)) ⌝ }
+{
+    match linking::check_links(handles, parents, ends, marks, count, names, first, next) {
+        Checked::Whole(_) => {
+            let mut queue = [0u16; 1024];
+            let n = walk_ruled(&parents[..count], &marks[..count], first, next, &mut queue);
             give(&queue[..n], places)
         }
         Checked::Refused(f) => Written::Refused(f),

@@ -100,7 +100,7 @@ fn lists_ok(handles: &[u32], parents: &[u16], ends: &[u32], marks: &[u8]) -> boo
     marks.len() == 1024
 }
 
-fn table_ok(
+pub(crate) fn table_ok(
     handles: &[u32],
     parents: &[u16],
     ends: &[u32],
@@ -145,7 +145,7 @@ pub fn check_name(s: &[u8]) -> Checked
     }
 }
 
-fn check_names(ends: &[u32], names: &[u8]) -> Checked
+pub(crate) fn check_names(ends: &[u32], names: &[u8]) -> Checked
     requires { ⌜ Rising (now ends) (length (now names)) ⌝ }
     ensures { λ r. ⌜ saysChecked r ≡ namesFrom 0 (length (now (ends .entry))) (now (ends .entry)) (now (names .entry)) ⌝ }
 {

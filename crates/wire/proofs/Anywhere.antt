@@ -1,49 +1,31 @@
 -- Demand 3 of the readers at any place, of the functions' own answers: `r` is any answer that the reader's promise allows there.
 -- Assumes nothing.
 use mathlib.Core.Bool.{Bool}
-use mathlib.Core.Path.{_≡_, ap, sym, _∙_, subst}
+use mathlib.Core.Path.{_≡_}
 use mathlib.Core.List.{List}
-use Prim.Native.Nat.{ℕ, _-_}
-use native.Mathlib.Omega.{arith}
-use lib.ListN.{length, length-drop}
-use Rattle.layout.specs.Answer.{Answer, Reader, means}
+use Prim.Native.Nat.{ℕ}
 use Rattle.layout.specs.Bytes.{Bytes}
-use Rattle.layout.specs.Codec.{Codec}
-use Rattle.layout.specs.Format.{Format}
-use Rattle.layout.specs.Grammar.{Grammar}
-use Rattle.layout.specs.Placed.{Lies, Placed}
-use Rattle.layout.proofs.laws.Meets.{sound-at, complete-at}
-use Rattle.layout.proofs.laws.Words.{fits, part-there}
 use Rattle.wire.specs.Anywhere.{ExactAt}
+use Rattle.wire.specs.Codecs.{boxIn, boxParts}
+use Rattle.wire.specs.Container.{containerAt, saysContainer}
 use Rattle.wire.specs.Device.{saysDevice}
-use Rattle.wire.specs.Layout.{shape, Value, Row, device, object, storage, Property}
+use Rattle.wire.specs.Layout.{shape, Value, Row, device, object, storage, Property, Container}
 use Rattle.wire.specs.Object.{saysObject}
 use Rattle.wire.specs.Places.{valueAt, shapeIn, shapeParts, rowAt, rowIn, rowParts}
 use Rattle.wire.specs.Property.{propertyAt, saysProperty, propertyIn}
 use Rattle.wire.specs.Says.{saysValue}
 use Rattle.wire.specs.Storage.{saysStorage}
+use Rattle.wire.specs.declared.container.ReadContainer.{ReadContainer}
 use Rattle.wire.specs.declared.device.ReadDevice.{ReadDevice}
 use Rattle.wire.specs.declared.object.ReadObject.{ReadObject}
 use Rattle.wire.specs.declared.property.ReadProperty.{ReadProperty}
 use Rattle.wire.specs.declared.storage.ReadStorage.{ReadStorage}
 use Rattle.wire.specs.declared.value.ReadValue.{ReadValue}
 use Rattle.wire.proofs.Described.{properties, property-parts}
+use Rattle.wire.proofs.laws.Boxes.{container-format, boxes}
+use Rattle.wire.proofs.laws.Exactly.{exact-at}
 use Rattle.wire.proofs.laws.Formats.{value-format, row-format, property-format}
 use Rattle.wire.proofs.laws.Located.{values, rows}
-
--- any answer that a promise of places allows
-pub exact-at : {R L : Type 0} {G : Grammar R} {F : Codec R} → Format G F → {mean : List ℕ → L → R} {parts : L → List (ℕ × ℕ)} {place : Reader L} → Placed mean parts place (F .read)
-    → (s : List ℕ) → Bytes s → (at : ℕ) (x : Answer L) → x ≡ place s at → ExactAt G (mean s) parts s at x
-exact-at {F} f {mean} {parts} P s h at x promised =
-    let agrees : means (mean s) x ≡ F .read s at = ap (means (mean s)) promised ∙ P .agrees s at in
-    record {
-      accepts = λ l n e.
-          let (w, st, g) = sound-at f (mean s) agrees h e in
-          let size : n - at ≡ length w = omega (arith, st .till) in
-          (omega (arith, st .till), record { within = omega (arith, size, fits st, length-drop at s); reads = rw (size, st .is) g });
-      reaches = λ r n p. complete-at f (mean s) agrees (part-there s at n (omega (arith, p .within, length-drop at s))) (p .reads);
-      inside = subst (Lies parts at) (sym promised) (P .inside s at);
-    }
 
 module _ (s : List ℕ) (h : Bytes s) (at : ℕ) where
   pub value-exact-at : (t : ℕ) (r : ReadValue) → saysValue r ≡ valueAt t s at → ExactAt (Value t) (shapeIn (shape t) s) (shapeParts (shape t)) s at (saysValue r)
@@ -60,3 +42,6 @@ module _ (s : List ℕ) (h : Bytes s) (at : ℕ) where
 
   pub property-exact-at : (there : Bool) (r : ReadProperty) → saysProperty r ≡ propertyAt there s at → ExactAt (Property there) (propertyIn s) property-parts s at (saysProperty r)
   property-exact-at there r promised = exact-at (property-format there) (properties there) s h at (saysProperty r) promised
+
+  pub container-exact-at : (r : ReadContainer) → saysContainer r ≡ containerAt s at → ExactAt Container (boxIn s) boxParts s at (saysContainer r)
+  container-exact-at r promised = exact-at container-format boxes s h at (saysContainer r) promised

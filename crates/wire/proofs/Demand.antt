@@ -4,8 +4,9 @@ use mathlib.Core.Bool.{Bool}
 use Prim.Native.Nat.{ℕ}
 use Rattle.layout.specs.Faithful.{Faithful}
 use Rattle.layout.proofs.laws.Meets.{faithful}
-use Rattle.wire.specs.Layout.{Text, Value, Row, device, object, storage, Property}
-use Rattle.wire.specs.Codecs.{text, value, row, property}
+use Rattle.wire.specs.Layout.{Text, Value, Row, device, object, storage, Property, Container}
+use Rattle.wire.specs.Codecs.{text, value, row, property, container}
+use Rattle.wire.proofs.laws.Boxes.{container-format}
 use Rattle.wire.proofs.laws.Formats.{text-format, value-format, row-format, property-format}
 
 pub texts : Faithful Text text
@@ -26,3 +27,7 @@ storages = faithful (row-format storage)
 -- once over whether the `IsEnable` byte is there
 pub properties : (there : Bool) → Faithful (Property there) (property there)
 properties there = faithful (property-format there)
+
+-- every word is the tidy one (`containers-single`, laws/Boxes)
+pub containers : Faithful Container container
+containers = faithful container-format

@@ -27,7 +27,7 @@ use Rattle.wire.specs.Layout.{Val, Shape, one, many, string, undef, shap
 use Rattle.wire.specs.Anywhere.{ExactAt}
 use Rattle.wire.specs.Property.{bytesOf, filling, none-of, slotIn, valuesIn, formIn, propertyIn, propertyAt}
 use Rattle.wire.specs.Worded.{Worded, WordedForm, a-range, a-list, absent, WordedProperty}
-use Rattle.wire.proofs.Anywhere.{exact-at}
+use Rattle.wire.proofs.laws.Exactly.{exact-at}
 use Rattle.wire.proofs.Described.{property-parts, form-parts, properties}
 use Rattle.wire.proofs.laws.Formats.{value-format, property-format}
 

@@ -11,6 +11,8 @@ pub mod Nths
 pub mod Picked
 pub mod Judged
 pub mod ReadBack
+pub mod Boxes
+pub mod Exactly
 pub mod Told
 pub mod Grounds
 pub mod Kinds

@@ -5,11 +5,14 @@ use mathlib.Core.List.{List, [], _∷_, map}
 use mathlib.Core.Option.{Option, some, none}
 use Prim.Native.Nat.{ℕ, zero, suc, _+_, _-_, _*_, _^_}
 use lib.IntN.{ℤ, pos, negsuc}
-use Rattle.layout.specs.Answer.{badText}
+use Rattle.layout.specs.Answer.{badText, means}
 use Rattle.layout.specs.Bytes.{bytes}
 use Rattle.layout.specs.Codec.{Codec, nothing, numbered, _and_, leading, only, through, field, cons-write, repeated, spared, celled, counted}
+use Rattle.wire.specs.Container.{containerAt, containerWord}
 use Rattle.wire.specs.Layout as L
-use Rattle.wire.specs.Layout.{Kind, sint, uint, wide, width, Num, int, nat, pair, meaning, paired, text-count, Shape, one, many, string, undef, shape, Val, nums, str, nil, Form, range, list, no-form, Reading, form-byte, Parts, reading}
+use Rattle.wire.specs.Layout.{Kind, sint, uint, wide, width, Num, int, nat, pair, meaning, paired, text-count, Shape, one, many, string, undef, shape, Val, nums, str, nil, Form, range, list, no-form, Reading, form-byte, Parts, reading, Box}
+use Rattle.wire.specs.Returned.{partOf}
+use Rattle.wire.specs.declared.container.Container as declared
 
 -- ── the number that a meaning is of ──
 
@@ -113,3 +116,19 @@ fields there =
 
 abbrev pub property : Bool → Codec Reading
 property there = through reading (fields there) (λ r. (fields there) .write (parts r))
+
+-- ── a container ──
+
+-- what its places mean
+abbrev pub boxIn : List ℕ → declared.Container → Box
+boxIn s x = record { kind = x .kind; code = x .code; number = x .number; payload = partOf s (x .payload) }
+
+-- from where to where its payload stands
+abbrev pub boxParts : declared.Container → List (ℕ × ℕ)
+boxParts x = (x .payload .start, x .payload .start + x .payload .count) ∷ []
+
+abbrev pub boxWord : Box → List ℕ
+boxWord x = containerWord (x .kind) (x .code) (x .number) (x .payload)
+
+abbrev pub container : Codec Box
+container = record { read = λ s at. means (boxIn s) (containerAt s at); write = boxWord }

@@ -1,6 +1,8 @@
 //! Commands, answers and records.
 use super::{datasets, show, words};
-use ptp_proved::{copy_recording, find_answer, mend_recording, read_record, Answer, Made, PtpRecord, Refusal, Session};
+use ptp_proved::{
+    copy_recording, find_answer, mend_recording, read_record, read_recording, records, Answer, Made, PtpRecord, Refusal, Session,
+};
 
 // The session that was asked, at its state before; and what it made: the number sent, and how many bytes.
 fn made(state: u32, session: Session, made: Result<(u32, usize), Refusal>, out: &[u8]) -> String {
@@ -116,6 +118,24 @@ pub fn record(s: &str) -> Option<String> {
     Some(match read_record(&s) {
         Ok((record, next)) => record_line(&s, record, next),
         Err(why) => show::refusal(why),
+    })
+}
+
+// The records, gone through one by one, are as many as were counted, and fill the bytes.
+pub fn recording(s: &str) -> Option<String> {
+    let s = words::bytes(s)?;
+    Some(match records(&s) {
+        Ok(each) => {
+            assert_eq!(read_recording(&s), Ok(each.len()));
+            let told: Vec<_> = each
+                .map(|record| format!("{} {} {}", record.kind as u16, show::start(record.body, &s), record.body.len()))
+                .collect();
+            [vec!["ok".into(), told.len().to_string()], told].concat().join(" ")
+        }
+        Err(why) => {
+            assert_eq!(read_recording(&s), Err(why));
+            show::refusal(why)
+        }
     })
 }
 

@@ -1,6 +1,7 @@
 //! The questions of docs/ASK.md that the interface can answer, answered through it.
 mod datasets;
 mod links;
+mod network;
 mod settings;
 mod show;
 mod tables;
@@ -8,11 +9,12 @@ mod values;
 mod words;
 
 use ptp_proved::{
-    object_handles, storage_ids, tidy_device, tidy_object, tidy_storage, write_array, StandardCommandCode, StandardResponseCode,
+    from_network, object_handles, storage_ids, tidy_device, tidy_object, tidy_storage, write_array, StandardCommandCode,
+    StandardResponseCode,
 };
 
 /// Every kind that is compared.
-pub const KINDS: [&str; 49] = [
+pub const KINDS: [&str; 61] = [
     "response-name",
     "command-name",
     "value",
@@ -55,6 +57,14 @@ pub const KINDS: [&str; 49] = [
     "delete",
     "collect",
     "add",
+    "folders",
+    "folder-paths",
+    "link",
+    "linked-walk",
+    "linked-paths",
+    "linked-delete",
+    "linked-collect",
+    "linked-add",
     "settings",
     "settings-find",
     "settings-store",
@@ -62,6 +72,10 @@ pub const KINDS: [&str; 49] = [
     "copy",
     "mend",
     "container",
+    "packet",
+    "to-network",
+    "from-network",
+    "recording",
 ];
 
 /// The answer's words; `None` where the words are no question.
@@ -82,11 +96,18 @@ pub fn answer(kind: &str, words: &[&str]) -> Option<String> {
         }
         ("call", [name, state, storage, filter, handle, room]) => links::call(name, state, [storage, filter, handle], room),
         ("answer", [number, s]) => links::answer(number, s),
-        ("walk" | "path" | "paths" | "delete" | "collect" | "add", _) => tables::answer(kind, words),
+        ("walk" | "path" | "paths" | "folders" | "folder-paths" | "delete" | "collect" | "add" | "link", _) => {
+            tables::answer(kind, words)
+        }
+        ("linked-walk" | "linked-paths" | "linked-delete" | "linked-collect" | "linked-add", _) => tables::answer(kind, words),
         ("settings", [edition, row]) => settings::row(edition, row),
         ("settings-find", [edition, row, vendor, property, serial]) => settings::find(edition, row, vendor, property, serial),
         ("settings-store", [edition, row, entry, room]) => settings::store(edition, row, entry, room),
+        ("packet", [at, s]) => network::packet(at, s),
+        ("to-network", [direction, s, room]) => network::to(direction, s, room),
+        ("from-network", [s, room]) => values::tidy(from_network, s, room),
         ("record", [s]) => links::record(s),
+        ("recording", [s]) => links::recording(s),
         ("copy", [s, room]) => links::copy(s, room),
         ("mend", [s, room, report]) => links::mend(s, room, report),
         ("container", [s]) => values::container(s),

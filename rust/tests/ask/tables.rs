@@ -1,6 +1,6 @@
 //! Object tables.
 use super::{show, words};
-use ptp_proved::{ObjectTable, ObjectTableMut, Refusal};
+use ptp_proved::{Links, LinksMut, ObjectTable, ObjectTableMut, Paths, Refusal};
 
 // A list that is only written holds this before.
 const FILLED: u16 = 0xA5A5;
@@ -44,16 +44,63 @@ impl Table {
     }
 }
 
+/// The links of a table that keeps them.
+struct Kept {
+    first: Vec<u16>,
+    next: Vec<u16>,
+}
+
+impl Kept {
+    fn read(words: &[&str]) -> Option<Kept> {
+        match words {
+            [first, next] => Some(Kept { first: words::list(first, words::short)?, next: words::list(next, words::short)? }),
+            _ => None,
+        }
+    }
+
+    fn filled() -> Kept {
+        Kept { first: vec![FILLED; ObjectTable::PLACES], next: vec![FILLED; ObjectTable::PLACES] }
+    }
+
+    fn lent(&mut self) -> LinksMut<'_> {
+        LinksMut { first: &mut self.first, next: &mut self.next }
+    }
+
+    fn view(&self) -> Links<'_> {
+        Links { first: &self.first, next: &self.next }
+    }
+
+    fn show(&self) -> String {
+        format!("{} {}", show::runs(&self.first), show::runs(&self.next))
+    }
+}
+
 /// Of the questions whose first six words are a table.
 pub fn answer(kind: &str, words: &[&str]) -> Option<String> {
     let mut table = Table::read(words.get(..6)?)?;
     match (kind, &words[6..]) {
-        ("walk", []) => Some(walk(table.lent().0.view())),
+        ("walk", []) => Some(places(|out| table.lent().0.view().walk(out).map(<[u16]>::len))),
+        ("folders", []) => Some(places(|out| table.lent().0.view().folders(out).map(<[u16]>::len))),
         ("path", [place, room]) => path(table.lent().0.view(), place, room),
-        ("paths", [room]) => paths(table.lent().0.view(), room),
-        ("delete", [place]) => delete(table, place),
-        ("collect", []) => Some(collect(table)),
-        ("add", [parent, handle, name]) => add(table, parent, handle, name),
+        ("paths", [room]) => paths(room, |out, ends| told(table.lent().0.view().paths(out, ends))),
+        ("folder-paths", [room]) => paths(room, |out, ends| told(table.lent().0.view().folder_paths(out, ends))),
+        ("delete", [place]) => delete(table, place, None),
+        ("collect", []) => Some(collect(table, None)),
+        ("add", [parent, handle, name]) => add(table, parent, handle, name, None),
+        ("link", []) => Some(link(table)),
+        (_, [first, next, more @ ..]) => linked(kind, table, Kept::read(&[first, next])?, more),
+        _ => None,
+    }
+}
+
+// Of those whose next two are its links.
+fn linked(kind: &str, mut table: Table, kept: Kept, more: &[&str]) -> Option<String> {
+    match (kind, more) {
+        ("linked-walk", []) => Some(places(|out| table.lent().0.view().linked_walk(kept.view(), out).map(<[u16]>::len))),
+        ("linked-paths", [room]) => paths(room, |out, ends| told(table.lent().0.view().linked_paths(kept.view(), out, ends))),
+        ("linked-delete", [place]) => delete(table, place, Some(kept)),
+        ("linked-collect", []) => Some(collect(table, Some(kept))),
+        ("linked-add", [parent, handle, name]) => add(table, parent, handle, name, Some(kept)),
         _ => None,
     }
 }
@@ -62,12 +109,27 @@ fn counted(answer: Result<usize, Refusal>) -> String {
     answer.map_or_else(show::refusal, |count| format!("ok {count}"))
 }
 
-fn walk(table: ObjectTable) -> String {
+// An answer's line, and the links behind it where the table keeps them.
+fn with_links(line: String, kept: Option<Kept>) -> String {
+    kept.map_or(line.clone(), |kept| format!("{line} {}", kept.show()))
+}
+
+fn link(mut table: Table) -> String {
+    let mut kept = Kept::filled();
+    let answer = table.lent().0.view().link(&mut kept.lent());
+    let word = answer.map_or_else(show::refusal, |()| "ok".into());
+    format!("{word} {}", kept.show())
+}
+
+fn places(mut list: impl FnMut(&mut [u16]) -> Result<usize, Refusal>) -> String {
     let mut places = [FILLED; ObjectTable::PLACES];
-    match table.walk(&mut places) {
-        Ok(order) => format!("ok {}", show::numbers(order)),
+    match list(&mut places) {
+        Ok(count) => {
+            assert!(places[count..].iter().all(|&place| place == FILLED), "a place too many");
+            format!("ok {}", show::numbers(&places[..count]))
+        }
         Err(why) => {
-            assert_eq!(places, [FILLED; ObjectTable::PLACES], "a refused walk wrote");
+            assert_eq!(places, [FILLED; ObjectTable::PLACES], "a refused list was written");
             show::refusal(why)
         }
     }
@@ -79,44 +141,61 @@ fn path(table: ObjectTable, place: &str, room: &str) -> Option<String> {
     Some(format!("{} {}", counted(answer), show::bytes(&out)))
 }
 
-fn paths(table: ObjectTable, room: &str) -> Option<String> {
-    let (mut out, mut ends) = (words::room(room)?, [FILLED_END; ObjectTable::PLACES]);
-    let answer = table.paths(&mut out, &mut ends).map(|paths| {
+// How many bytes, and how many paths.
+fn told(answer: Result<Paths, Refusal>) -> Result<(usize, usize), Refusal> {
+    answer.map(|paths| {
         let all: String = paths.iter().collect();
         assert_eq!(all.as_bytes(), paths.bytes());
         (paths.bytes().len(), paths.len())
-    });
+    })
+}
+
+fn paths(room: &str, mut list: impl FnMut(&mut [u8], &mut [u32]) -> Result<(usize, usize), Refusal>) -> Option<String> {
+    let (mut out, mut ends) = (words::room(room)?, [FILLED_END; ObjectTable::PLACES]);
+    let answer = list(&mut out, &mut ends);
     let told = answer.map_or(0, |(_, told)| told);
     assert!(ends[told..].iter().all(|&end| end == FILLED_END), "an end too many");
     let line = format!("{} {}", counted(answer.map(|(count, _)| count)), show::bytes(&out));
     Some(if answer.is_ok() { format!("{line} {}", show::runs(&ends)) } else { line })
 }
 
-fn delete(mut table: Table, place: &str) -> Option<String> {
+fn delete(mut table: Table, place: &str, mut kept: Option<Kept>) -> Option<String> {
     let place = words::size(place)?;
-    let answer = table.lent().0.delete(place);
+    let (mut lent, _) = table.lent();
+    let answer = match &mut kept {
+        Some(kept) => lent.linked_delete(&mut kept.lent(), place),
+        None => lent.delete(place),
+    };
     let word = answer.map_or_else(show::refusal, |()| "ok".into());
-    Some(format!("{word} {}", show::runs(&table.marks)))
+    Some(with_links(format!("{word} {}", show::runs(&table.marks)), kept))
 }
 
-fn collect(mut table: Table) -> String {
+fn collect(mut table: Table, mut kept: Option<Kept>) -> String {
     let used = table.count;
     let (mut lent, new_places) = table.lent();
-    let answer = lent.collect(new_places).map(<[u16]>::len);
+    let answer = match &mut kept {
+        Some(kept) => lent.linked_collect(&mut kept.lent(), new_places),
+        None => lent.collect(new_places),
+    };
+    let answer = answer.map(<[u16]>::len);
     assert_eq!(answer.unwrap_or(used), used, "a new place for each that was used");
     let count = table.count;
-    table.changed(answer.map(|_| count))
+    with_links(table.changed(answer.map(|_| count)), kept)
 }
 
-fn add(mut table: Table, parent: &str, handle: &str, name: &str) -> Option<String> {
+fn add(mut table: Table, parent: &str, handle: &str, name: &str, mut kept: Option<Kept>) -> Option<String> {
     let (parent, handle, name) = (words::size(parent)?, words::half(handle)?, words::bytes(name)?);
     let used = table.count;
     let (mut lent, new_places) = table.lent();
-    let answer = lent.add(parent, handle, &name, new_places).map(|added| {
+    let answer = match &mut kept {
+        Some(kept) => lent.linked_add(&mut kept.lent(), parent, handle, &name, new_places),
+        None => lent.add(parent, handle, &name, new_places),
+    };
+    let answer = answer.map(|added| {
         let own_places = (0..used).all(|place| added.new_places[place] as usize == place);
         assert_eq!((added.new_places.len(), added.others_moved()), (used, !own_places));
         added.place
     });
     assert_eq!(table.count, answer.map_or(used, |place| place + 1));
-    Some(table.changed(answer))
+    Some(with_links(table.changed(answer), kept))
 }

@@ -3,14 +3,14 @@ use super::{show, words};
 use ptp_proved::*;
 
 /// A writer's answer, and the whole output.
-fn written(answer: Result<usize, Refusal>, out: &[u8]) -> String {
+pub fn written(answer: Result<usize, Refusal>, out: &[u8]) -> String {
     match answer {
         Ok(count) => format!("ok {count} {}", show::bytes(out)),
         Err(why) => format!("{} {}", show::refusal(why), show::bytes(out)),
     }
 }
 
-fn read(answer: Result<String, Refusal>) -> String {
+pub fn read(answer: Result<String, Refusal>) -> String {
     match answer {
         Ok(words) => format!("ok {words}"),
         Err(why) => show::refusal(why),

@@ -1,7 +1,6 @@
 -- `copying::fate_of`: with the recording, or at the refused record. Assumes nothing.
 use native.Mathlib.Omega.{arith}
 use borrow.Author.Tests.{le-ltb, lt-ltb}
-use borrow.Author.Needs.{needs}
 use Rattle.copying.proofs.fate_of.Statement.{statement}
 use Rattle.copying.proofs.fate_of.Tie as tie
 

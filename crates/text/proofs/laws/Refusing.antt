@@ -25,7 +25,7 @@ at-some t e = rw e
 pub at-length : (t : Told) → t .placed ≡ true → length (atText t) ≡ length (decimal (t .at)) + 1
 at-length t e = rw (at-some t e) (simp length-append (omega arith))
 
-pub at-short : (t : Told) → t .at < 2 ^ 64 → length (atText t) ≤ 21
+at-short : (t : Told) → t .at < 2 ^ 64 → length (atText t) ≤ 21
 at-short t h = go (t .placed) refl
   where
     go : (b : Bool) → t .placed ≡ b → length (atText t) ≤ 21

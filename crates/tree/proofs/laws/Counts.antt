@@ -4,6 +4,7 @@ use mathlib.Core.Path.{_≡_, refl, sym, ap, subst, _∙_}
 use mathlib.Core.Bool.{Bool, true, false}
 use mathlib.Core.List.{List, [], _∷_, _++_}
 use Prim.Native.Nat.{ℕ, zero, suc, _+_, _≤_, _<_}
+use native.Mathlib.Nat.{le-refl}
 use native.Mathlib.Omega.{arith}
 use borrow.Author.Tests.{eq-eqb, ne-eqb, eqb-true, eqb-false}
 use lib.ListN.{length, getD, take, drop, take-append-drop}
@@ -74,6 +75,35 @@ pigeon (suc n) l f g =
     let s = size n l in
     let o = f n in
     omega arith
+
+-- lists that hold the same, each as often, are as long
+size-none : (b : List ℕ) → ((k : ℕ) → 0 ≡ times k b) → 0 ≡ length b
+size-none [] f = refl
+size-none (y ∷ b) f = absurd (let e = f y in let g = hit y y b refl in omega arith)
+
+size-by : (n : ℕ) (a b : List ℕ) → length a ≤ n → ((k : ℕ) → times k a ≡ times k b) → length a ≡ length b
+size-by zero a b h f = go a h f
+  where
+    go : (a : List ℕ) → length a ≤ 0 → ((k : ℕ) → times k a ≡ times k b) → length a ≡ length b
+    go [] h f = size-none b f
+    go (x ∷ a) h f = absurd (omega arith)
+size-by (suc n) a b h f = go a h f (λ c d l g. size-by n c d l g)
+  where
+    go : (a : List ℕ) → length a ≤ suc n → ((k : ℕ) → times k a ≡ times k b) → ((c d : List ℕ) → length c ≤ n → ((k : ℕ) → times k c ≡ times k d) → length c ≡ length d)
+        → length a ≡ length b
+    go [] h f r = size-none b f
+    go (x ∷ a) h f r =
+        let g = hit x x a refl in
+        let s = size x (x ∷ a) in
+        let t = size x b in
+        let e = f x in
+        let i = r (without x (x ∷ a)) (without x b) (omega arith)
+        (λ k. equal k x (λ q. rw q (gone x (x ∷ a) ∙ sym (gone x b))) (λ q. stay k x (x ∷ a) q ∙ f k ∙ sym (stay k x b q)))
+        in
+        omega arith
+
+pub same-size : (a b : List ℕ) → ((k : ℕ) → times k a ≡ times k b) → length a ≡ length b
+same-size a b f = size-by (length a) a b (le-refl (length a)) f
 
 -- ── what holds of every one ──
 

@@ -1,4 +1,4 @@
--- A table whose live places were moved, keeping their order: ways and paths are the old ones but for place numbers, and so is the walk.
+-- A table whose live places were moved, keeping their order: ways and paths are the old ones but for place numbers, and so are the walk and the folder view.
 -- Assumes nothing.
 use mathlib.Core.Path.{_≡_, refl, sym, ap, _∙_}
 use mathlib.Core.Bool.{Bool, true, false}
@@ -14,10 +14,11 @@ use Rattle.tree.specs.Facts.{Ruled, Marks}
 use Rattle.tree.specs.Table.{parent}
 use Rattle.tree.specs.Listed.{times, Every, none, more, Sorted, done, next, Listed}
 use Rattle.tree.specs.Way.{fromRoot, way, depth, Left, here, there, stops, Before, higher, beside, Walk}
+use Rattle.tree.specs.View.{Folders}
 use Rattle.tree.specs.Path.{nameOf, slashAfter, pathOf}
 use Rattle.tree.proofs.laws.Counts.{equal, hit, miss, every-append}
 use Rattle.tree.proofs.laws.Ways.{at-root, by-parent, way-root, way-step}
-use Rattle.tree.proofs.Grown.{by-mark, clash}
+use Rattle.tree.proofs.laws.Below.{by-mark, clash}
 
 -- the marked places of ps stand in qs, in the same order, and nothing else is marked there
 pub record Moves (ps : List ℕ) (has : ℕ → Bool) (qs : List ℕ) (now : ℕ → Bool) (new : ℕ → ℕ) : Type 0 where
@@ -83,7 +84,7 @@ module _ (ps : List ℕ) (has : ℕ → Bool) (rule : Ruled ps) (marks : Marks p
       (ap (nameOf es′ ns′) (sym (m .root)) ∙ name 0 (marks .root))
       (λ above j s h. ap (λ (n : List ℕ). above ++ slashAfter above ++ n) (name j h)) k e
 
-  -- ── the walk ──
+  -- ── the walk and the folder view ──
 
   way-marked : (f k : ℕ) → k < f → has k ≡ true → Every (λ x. has x ≡ true) (way ps k)
   way-marked zero k h e = absurd (not-suc-le-zero h)
@@ -100,15 +101,17 @@ module _ (ps : List ℕ) (has : ℕ → Bool) (rule : Ruled ps) (marks : Marks p
   left-moved (more p e) (more q f) (there l) = there (left-moved e f l)
   left-moved e f stops = stops
 
+  ways-moved : (a b : ℕ) → has a ≡ true → has b ≡ true → Left (way ps a) (way ps b) → Left (way qs (new a)) (way qs (new b))
+  ways-moved a b p q l =
+      rw (way-moved a p, way-moved b q) (left-moved (way-marked (suc a) a (omega arith) p) (way-marked (suc b) b (omega arith) q) l)
+
   depth-moved : (k : ℕ) → has k ≡ true → depth qs (new k) ≡ depth ps k
   unfolding depth
   depth-moved k e = ap length (way-moved k e) ∙ length-map (way ps k) new
 
   before-moved : (a b : ℕ) → has a ≡ true → has b ≡ true → Before ps a b → Before qs (new a) (new b)
   before-moved a b p q (higher h) = higher (let x = depth-moved a p in let y = depth-moved b q in omega arith)
-  before-moved a b p q (beside e l) =
-      beside (depth-moved a p ∙ e ∙ sym (depth-moved b q))
-      (rw (way-moved a p, way-moved b q) (left-moved (way-marked (suc a) a (omega arith) p) (way-marked (suc b) b (omega arith) q) l))
+  before-moved a b p q (beside e l) = beside (depth-moved a p ∙ e ∙ sym (depth-moved b q)) (ways-moved a b p q l)
 
   same : (a b : ℕ) → has a ≡ true → has b ≡ true → new a ≡ new b → a ≡ b
   same a b p q e =
@@ -131,22 +134,30 @@ module _ (ps : List ℕ) (has : ℕ → Bool) (rule : Ruled ps) (marks : Marks p
   times-new j e (more {x = x} {l = l} p f) =
       miss j (new x) (map new l) (λ z. clash (now (new x)) (m .keeps x p) (rw z at e)) ∙ times-new j e f
 
-  each-before : {x : ℕ} → has x ≡ true → {l : List ℕ} → Every (λ y. has y ≡ true) l → Every (Before ps x) l → Every (Before qs (new x)) (map new l)
-  each-before p none none = none
-  each-before p (more q e) (more b f) = more (before-moved _ _ p q b) (each-before p e f)
+  -- an order that moving keeps is the order of the moved list
+  module _ (Bef Bef′ : ℕ → ℕ → Type 0) (kept : (a b : ℕ) → has a ≡ true → has b ≡ true → Bef a b → Bef′ (new a) (new b)) where
+    each-before : {x : ℕ} → has x ≡ true → {l : List ℕ} → Every (λ y. has y ≡ true) l → Every (Bef x) l → Every (Bef′ (new x)) (map new l)
+    each-before p none none = none
+    each-before p (more q e) (more b f) = more (kept _ _ p q b) (each-before p e f)
 
-  sorted : {l : List ℕ} → Every (λ y. has y ≡ true) l → Sorted (Before ps) l → Sorted (Before qs) (map new l)
-  sorted none done = done
-  sorted (more p e) (next f s) = next (each-before p e f) (sorted e s)
+    sorted : {l : List ℕ} → Every (λ y. has y ≡ true) l → Sorted Bef l → Sorted Bef′ (map new l)
+    sorted none done = done
+    sorted (more p e) (next f s) = next (each-before p e f) (sorted e s)
+
+    listed-moved : (l : List ℕ) → Listed has Bef l → Listed now Bef′ (map new l)
+    listed-moved l w =
+        let e = each-marked w in
+        record {
+          once = λ j. by-mark (now j)
+              (λ y. let c = m .covers j y in
+              ap (λ (n : ℕ). times n (map new l)) (sym (c .2)) ∙ times-moved (c .0) (c .1) e
+              ∙ w .once (c .0) ∙ ap (λ (b : Bool). pick {A = ℕ} b 1 0) (c .1 ∙ sym y))
+              (λ y. times-new j y e ∙ sym (ap (λ (b : Bool). pick {A = ℕ} b 1 0) y));
+          order = sorted e (w .order);
+        }
 
   pub walk-moved : (l : List ℕ) → Walk ps has l → Walk qs now (map new l)
-  walk-moved l w =
-      let e = each-marked w in
-      record {
-        once = λ j. by-mark (now j)
-            (λ y. let c = m .covers j y in
-            ap (λ (n : ℕ). times n (map new l)) (sym (c .2)) ∙ times-moved (c .0) (c .1) e
-            ∙ w .once (c .0) ∙ ap (λ (b : Bool). pick {A = ℕ} b 1 0) (c .1 ∙ sym y))
-            (λ y. times-new j y e ∙ sym (ap (λ (b : Bool). pick {A = ℕ} b 1 0) y));
-        order = sorted e (w .order);
-      }
+  walk-moved l w = listed-moved (Before ps) (Before qs) before-moved l w
+
+  pub view-moved : (l : List ℕ) → Folders ps has l → Folders qs now (map new l)
+  view-moved l w = listed-moved (λ a b. Left (way ps a) (way ps b)) (λ a b. Left (way qs a) (way qs b)) ways-moved l w

@@ -13,6 +13,7 @@ use Rattle.layout.specs.Told.{PlacedExactly, Inside}
 use Rattle.layout.proofs.laws.Told.{Telling, read, plainly, telling-same, Closed, Everywhere, everywhere, telling-pick, telling-after, telling-exactly, told-from-0}
 use Rattle.wire.proofs.laws.Told.{text-telling}
 use Rattle.tree.specs.Table.{Table, stops, tableOk, nameBytes, nameAt, namesFrom, tableAt}
+use Rattle.tree.specs.Links.{pairOk, linksOk, linkAt, Linked, keptAt}
 use Rattle.tree.specs.Says.{saysChecked}
 use Rattle.tree.specs.declared.Checked.{Checked}
 
@@ -38,3 +39,14 @@ table-telling t = telling-pick (tableOk t) (λ _. names-telling 0 (length (stops
 -- of a table, and so of every question that asks for one: its walk, a path, all paths
 pub table-told : (t : Table) (r : Checked) → saysChecked r ≡ tableAt t → PlacedExactly (saysChecked r)
 table-told t r promised = telling-exactly (telling-same promised (table-telling t))
+
+-- of a table that keeps its links, and of links that are made
+pub kept-told : (t : Table) (fs ns : List ℕ) (r : Checked) → saysChecked r ≡ keptAt t fs ns → PlacedExactly (saysChecked r)
+unfolding keptAt
+kept-told t fs ns r promised =
+    telling-exactly (telling-same promised (telling-pick (linksOk t fs ns) (λ _. table-telling t) λ _. plainly TABLE (omega arith)))
+
+pub link-told : (t : Table) {fs ns f m : List ℕ} (r : Checked) → Linked t fs ns (saysChecked r) f m → PlacedExactly (saysChecked r)
+unfolding linkAt
+link-told t {fs} {ns} r promised =
+    telling-exactly (telling-same (promised .answers) (telling-pick (pairOk fs ns) (λ _. table-telling t) λ _. plainly TABLE (omega arith)))

@@ -14,12 +14,13 @@ use Rattle.layout.specs.Answer.{pick}
 use Rattle.tree.specs.Facts.{Ruled}
 use Rattle.tree.specs.Table.{parent}
 use Rattle.tree.specs.Way.{climbed, fromRoot, way, depth, Left, here, there, stops, Before, higher, beside, Walk}
+use Rattle.tree.specs.View.{Folders}
 use Rattle.tree.proofs.laws.Counts.{equal}
 use Rattle.tree.proofs.Alone.{unique}
 
 -- ── left to right ──
 
-left-never : {s t : List ℕ} → Left s t → Left t s → ⊥
+pub left-never : {s t : List ℕ} → Left s t → Left t s → ⊥
 left-never (here h) (here g) = omega arith
 left-never (here h) (there q) = omega arith
 left-never (there p) (here g) = omega arith
@@ -36,7 +37,7 @@ left-last (x ∷ s) h = there (left-last s h)
 
 -- ── no two places are each before the other ──
 
-never : (ps : List ℕ) (a b : ℕ) → Before ps a b → Before ps b a → ⊥
+pub never : (ps : List ℕ) (a b : ℕ) → Before ps a b → Before ps b a → ⊥
 never ps a b (higher h) (higher g) = omega arith
 never ps a b (higher h) (beside e p) = omega arith
 never ps a b (beside e p) (higher g) = omega arith
@@ -45,6 +46,10 @@ never ps a b (beside e p) (beside f q) = left-never p q
 -- a table has at most one walk
 pub one-walk : (ps : List ℕ) (has : ℕ → Bool) (l m : List ℕ) → Walk ps has l → Walk ps has m → l ≡ m
 one-walk ps has l m p q = unique (Before ps) (never ps) has l m p q
+
+-- and at most one folder view
+pub one-view : (ps : List ℕ) (has : ℕ → Bool) (l m : List ℕ) → Folders ps has l → Folders ps has m → l ≡ m
+one-view ps has l m p q = unique (λ a b. Left (way ps a) (way ps b)) (λ a b. left-never) has l m p q
 
 -- ── ways ──
 
@@ -114,7 +119,7 @@ module _ (ps : List ℕ) (rule : Ruled ps) where
   kid-depth : {p x : ℕ} → Kid ps p x → depth ps x ≡ suc (depth ps p)
   kid-depth {p} {x} k = depth-step x (k .some) (k .there) ∙ ap (λ (n : ℕ). suc (depth ps n)) (k .up)
 
-  kid-way : {p x : ℕ} → Kid ps p x → way ps x ≡ way ps p ++ x ∷ []
+  pub kid-way : {p x : ℕ} → Kid ps p x → way ps x ≡ way ps p ++ x ∷ []
   kid-way {p} {x} k = way-step x (k .some) (k .there) ∙ ap (λ (n : ℕ). way ps n ++ x ∷ []) (k .up)
 
   same-length : (p q : ℕ) → depth ps p ≡ depth ps q → length (way ps p) ≡ length (way ps q)

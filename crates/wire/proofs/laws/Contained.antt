@@ -8,14 +8,16 @@ use native.Mathlib.Omega.{arith}
 use native.Mathlib.Numerals.{add-one}
 use borrow.Author.Tests.{le-leb, lt-leb, leb-true}
 use lib.Dec.{leb}
-use lib.ListN.{length, take, drop, getD, length-append, length-drop}
-use lib.Seq.{length-take-le, take-length}
-use Rattle.layout.specs.Answer.{Answer, got, refused, bare, after, spanAt, fieldAt}
+use lib.ListN.{length, take, drop, getD, length-append}
+use lib.Seq.{take-length}
+use Rattle.layout.specs.Answer.{Answer, got, refused, bare}
 use Rattle.layout.specs.Bytes.{Bytes, bytes, number}
+use Rattle.layout.specs.Format.{Stands, Sound, word, none}
+use Rattle.layout.specs.Grammar.{Number, num}
 use Rattle.layout.specs.Written.{says, no, Put, roomed}
-use Rattle.layout.proofs.laws.Accepted.{Accepts, accepts-after, accepts-pick, accepts-field}
-use Rattle.layout.proofs.laws.Make.{Spanned, there, short, spanned}
-use Rattle.layout.proofs.laws.Numbers.{length-bytes, number-lt, Bytes-take, Bytes-drop}
+use Rattle.layout.proofs.laws.Accepted.{Accepts, accepts-all, accepts-after, accepts-pick, accepts-field}
+use Rattle.layout.proofs.laws.Make.{number-format}
+use Rattle.layout.proofs.laws.Numbers.{length-bytes}
 use Rattle.layout.proofs.laws.Stored.{first, more}
 use Rattle.layout.specs.Refusals.{KIND, COUNT}
 use Rattle.wire.specs.Container.{isKind, headerRest, headerAt, containerAt, containerWord, containerSaid, paramBytes, commandSaid}
@@ -111,16 +113,16 @@ module _ (s : List ℕ) (at : ℕ) where
       (λ e. record { start = p .till; till = refl; within = omega (arith, p .within, leb-true (h .«payload_len») (length s - n) e) })
       (λ _. tt)
 
--- a number that was read of bytes fits its width
-pub accepts-small : (w : ℕ) (s : List ℕ) → Bytes s → (at : ℕ) → Accepts (λ v n. v < 256 ^ w) (numAt w s at)
-unfolding fieldAt after
-accepts-small w s h at = go (spanAt at w s at) (spanned at w s at)
+-- a number that was read of bytes stands there, and fits its width
+pub cell : (w : ℕ) (s : List ℕ) → Bytes s → (at : ℕ) → Accepts (λ v n. Stands s at n (bytes w v) × (v < 256 ^ w)) (numAt w s at)
+cell w s h at = go (numAt w s at) ((number-format w) .sound s h at)
   where
-    go : (x : Answer (Unit {0})) → Spanned at w s at x → Accepts (λ v n. v < 256 ^ w) (after x λ _ next. got (number (take w (drop at s))) next)
-    go (got t n) (there k) =
-        let l : length (take w (drop at s)) ≡ w = length-take-le w (drop at s) (omega (arith, length-drop at s)) in
-        rw l at (number-lt (take w (drop at s)) (Bytes-take w (drop at s) (Bytes-drop at s h)))
-    go (refused t) (short k) = tt
+    go : (x : Answer ℕ) → Sound (Number w) s at x → Accepts (λ v n. Stands s at n (bytes w v) × (v < 256 ^ w)) x
+    go (got v n) (word st (num lt)) = (st, lt)
+    go (refused t) none = tt
+
+pub accepts-small : (w : ℕ) (s : List ℕ) → Bytes s → (at : ℕ) → Accepts (λ v n. v < 256 ^ w) (numAt w s at)
+accepts-small w s h at = accepts-all _ _ (numAt w s at) (cell w s h at) λ v n p. p .1
 
 module _ (s : List ℕ) (h : Bytes s) (at : ℕ) where
   header-small : Accepts (λ x n. x .number < 256 ^ 4) (headerAt s at)

@@ -33,7 +33,7 @@ so : {A : Type 0} {a b : A} → a ≡ b → Otherwise a b
 so e = rw (← e) otherwise
 
 -- a kind that is known
-kind-from : (k : ℕ) → isKind k ≡ true → (1 ≤ k) × (k ≤ 4)
+pub kind-from : (k : ℕ) → isKind k ≡ true → (1 ≤ k) × (k ≤ 4)
 unfolding isKind
 kind-from k e = go (leb 1 k) refl e
   where

@@ -1,10 +1,10 @@
 -- `mending::report::put_lines`: the lines of the stretches before i stand in the output. Assumes nothing.
-use mathlib.Core.Path.{_≡_, refl, ap}
+use mathlib.Core.Path.{_≡_}
 use native.Mathlib.Numerals.{add-one}
 use native.Mathlib.Omega.{arith}
-use Prim.Native.Nat.{_+_, _-_, _*_, _≤_}
+use Prim.Native.Nat.{_-_, _*_, _≤_}
 use denote.Ref.{now}
-use lib.ListN.{length, take}
+use lib.ListN.{take}
 use Rattle.layout.specs.Written.{Put}
 use Rattle.layout.proofs.laws.Writing.{nothing, then, long}
 use Rattle.mending.specs.Report.{linesOf}

@@ -24,7 +24,7 @@ whole e = accepted (asked e) (heard-of e)
 returns : tie.Need-returns
 returns c =
     let w = c .before .before in
-    order (sym (heard-of (w .before .before .before .before))) (c .plain .ensures) (w .walk-ruled .ensures)
+    order (sym (heard-of (w .before .before .before .before))) (c .plain .ensures) (w .walk-made .ensures)
 
 returns-2 : tie.Need-returns-2
 returns-2 c = no-order (sym (heard saysChecked (c .before .f .given .1) (c .before .before .before .check-table .ensures))) refl refl refl

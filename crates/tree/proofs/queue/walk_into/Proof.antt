@@ -26,7 +26,7 @@ returns : tie.Need-returns
 returns c =
     let w = c .before .before .before .before .before .before in
     let e = w .before .before .before .before in
-    walk-given (asked e) _ (heard-of e) (front (w .walk-ruled .ensures) .0) (c .before .before .give .ensures)
+    walk-given (asked e) _ (heard-of e) (front (w .walk-made .ensures) .0) (c .before .before .give .ensures)
 
 returns-2 : tie.Need-returns-2
 returns-2 c = walk-refused _ _ (heard saysChecked (c .before .f .given .1) (c .before .before .before .check-table .ensures))
@@ -41,8 +41,8 @@ walk-into-spec =
     (λ c. marks-long (whole (c .before .before)))
     (λ c. search needs)
     (λ c κs. let s = whole (c .before .before .before) in (s .kept .ruling, (even s, (s .marks, s .kept .ruling .few))))
-    (λ c. front (c .before .walk-ruled .ensures) .2)
-    (λ c. sym (front (c .before .before .walk-ruled .ensures) .1))
+    (λ c. front (c .before .walk-made .ensures) .2)
+    (λ c. sym (front (c .before .before .walk-made .ensures) .1))
     (λ c κs. search needs)
     (λ c. search needs)
     (λ c. search needs)
