@@ -3,12 +3,13 @@
     python3 -m examples.network PROGRAM
 
 What the controller recorded is the example's day without its note and its Event, by the model, however the camera cuts its data. A day that is
-cut ends both with 1 and a sentence. Where tshark and text2pcap are, they read each packet as the model does.
+cut ends both with 1 and a sentence, and so does a packet that is too long the camera. Where tshark and text2pcap are, they read each packet as the model does.
 """
 
 import pathlib
 import re
 import shutil
+import socket
 import subprocess
 import sys
 import tempfile
@@ -106,6 +107,23 @@ def judge_cut_day(program, place, folder):
     return None
 
 
+def judge_long(program, folder):
+    """A packet of more than 16 MiB that a controller announces ends the camera; so does one that leaves in the handshake."""
+    for sent in (((16 << 20) + 1).to_bytes(4, "little") + b"\x01\0\0\0", b"\x22\0\0\0"):
+        (folder / "day").write_bytes(DAY)
+        camera = subprocess.Popen([program, "camera", folder / "day", "127.0.0.1:0"], stdout=subprocess.PIPE, stderr=subprocess.PIPE, text=True)
+        try:
+            host, port = LISTENING.fullmatch(camera.stdout.readline()).group(1).split(":")
+            with socket.create_connection((host, int(port)), SECONDS) as controller:
+                controller.sendall(sent)
+            _, said = camera.communicate(timeout=SECONDS)
+        finally:
+            camera.kill()
+        if camera.returncode != 1 or said.count("\n") != 1:
+            return f"{sent.hex()} in the handshake: the camera ended {camera.returncode}, {said}"
+    return None
+
+
 def cases(program, folder):
     for cut in CUTS:
         yield judge_day(program, cut, folder)
@@ -113,6 +131,7 @@ def cases(program, folder):
     for record in records[4:-1:5]:
         yield judge_cut_day(program, record.after, folder)
         yield judge_cut_day(program, record.after - 1, folder)
+    yield judge_long(program, folder)
 
 
 def main():

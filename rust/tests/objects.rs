@@ -55,6 +55,26 @@ impl Card {
         order
     }
 
+    // A folder, then all below it, before the next one at its level.
+    fn view(&self, folder: u32) -> Vec<&Live> {
+        let below = self.live.iter().filter(|each| each.parent == folder && each.handle != ROOT);
+        std::iter::once(self.get(folder)).chain(below.flat_map(|each| self.view(each.handle))).collect()
+    }
+
+    // The folder view has the walk's paths, and its places are the model's.
+    fn compare_view(&self, objects: &Objects, walked: &mut [String]) {
+        let (mut out, mut ends, mut places) = (vec![0; 1 << 20], [0; PLACES], [0; PLACES]);
+        let viewed = objects.folder_paths(&mut out, &mut ends).unwrap();
+        let view = self.view(ROOT);
+        assert!(viewed.iter().eq(view.iter().map(|each| self.path(each))));
+        let mut viewed: Vec<_> = viewed.iter().collect();
+        viewed.sort_unstable();
+        walked.sort_unstable();
+        assert_eq!(viewed, walked);
+        let places = objects.folders(&mut places).unwrap();
+        assert!(places.iter().map(|&place| usize::from(place)).eq(view.iter().map(|each| each.place)));
+    }
+
     fn is_within(&self, handle: u32, folder: u32) -> bool {
         handle == folder || (handle != ROOT && self.is_within(self.get(handle).parent, folder))
     }
@@ -98,9 +118,15 @@ impl Card {
 
     fn compare(&self, objects: &Objects) {
         assert_eq!(objects.len(), self.live.len());
-        let (mut out, mut ends) = (vec![0; 1 << 20], [0; PLACES]);
+        let (mut out, mut ends, mut places) = (vec![0; 1 << 20], [0; PLACES], [0; PLACES]);
         let paths = objects.table().paths(&mut out, &mut ends).unwrap();
         assert!(paths.iter().eq(self.walk().iter().map(|each| self.path(each))));
+        let mut walked: Vec<_> = paths.iter().map(str::to_string).collect();
+        // along the links as without them
+        assert!(objects.paths(&mut out, &mut ends).unwrap().iter().eq(walked.iter()));
+        let places = objects.walk(&mut places).unwrap();
+        assert!(places.iter().map(|&place| usize::from(place)).eq(self.walk().iter().map(|each| each.place)));
+        self.compare_view(objects, &mut walked);
         for each in &self.live {
             assert_eq!(objects.find(each.handle), Some(each.place));
         }
