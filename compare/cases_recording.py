@@ -105,8 +105,13 @@ def short_copy(rng):
     return (f"copy {hexed(data)} {room}" for data in itertools.chain(copied_recordings(), short_records()) for room in copy_rooms(data))
 
 
+def random_recording(rng):
+    """Of up to eight records, often damaged."""
+    return maybe_damaged(rng, b"".join(random_record(rng) for _ in range(rng.randrange(9))))
+
+
 def one_copy(rng):
-    data = maybe_damaged(rng, b"".join(random_record(rng) for _ in range(rng.randrange(9))))
+    data = random_recording(rng)
     return f"copy {hexed(data)} {room_for(rng, lambda: recording.copied(data).data)}"
 
 
@@ -124,8 +129,7 @@ def short_whole_recording(rng):
 
 
 def one_whole_recording(rng):
-    data = b"".join(random_record(rng) for _ in range(rng.randrange(9)))
-    return f"recording {hexed(maybe_damaged(rng, data))}"
+    return f"recording {hexed(random_recording(rng))}"
 
 
 def codes_listed():
@@ -154,8 +158,7 @@ def short_listing(rng):
 
 
 def one_listing(rng):
-    data = b"".join(random_record(rng) for _ in range(rng.randrange(9)))
-    return f"listing {hexed(maybe_damaged(rng, data))}"
+    return f"listing {hexed(random_recording(rng))}"
 
 
 RECORDING_CASES = {

@@ -3,7 +3,8 @@
     python3 -m examples.network PROGRAM
 
 What the controller recorded is the example's day without its note and its Event, by the model, however the camera cuts its data. A day that is
-cut ends both with 1 and a sentence, and so does a packet that is too long the camera. Where tshark and text2pcap are, they read each packet as the model does.
+cut ends both with 1 and a sentence. A packet that is too long ends the camera in the same way. Where tshark and text2pcap are, they read each
+packet as the model does.
 """
 
 import pathlib
