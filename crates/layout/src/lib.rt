@@ -1,4 +1,6 @@
 // What a refusal tells, made in one place, and what every writer does. What a layout is stands in specs/.
+#![tactic(auto)]
+
 ghost use Rattle.std.specs.Prelude.{◌≡◌};
 ghost use Rattle.layout.specs.Answer.{end_at, bad_text, bare};
 

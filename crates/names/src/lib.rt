@@ -1,4 +1,6 @@
 // The names of response and command codes. What they are stands in specs/Names.antt.
+#![tactic(auto)]
+
 ghost use Rattle.std.specs.Prelude.{◌≡◌};
 ghost use Rattle.names.specs.Names.{name_bytes, response_place, command_place};
 ghost use Rattle.names.specs.Says.{says_name};

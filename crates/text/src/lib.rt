@@ -1,4 +1,6 @@
 // Numbers and refusals as text: the listing and the reports of a copy and of a mending print them alike. What is printed stands in specs/.
+#![tactic(auto)]
+
 ghost use Rattle.std.specs.Prelude.{◌+◌, ◌≤◌, length};
 ghost use Rattle.layout.specs.Written.{Put, roomed};
 ghost use Rattle.text.specs.Number.{decimal};

@@ -1,5 +1,7 @@
 // What a program holds of an input that it reads piece by piece: bytes of a window, from a place of it on. What is left there moves to the
 // window's front, and what comes next joins it. specs/Run.antt says what a row of turns gives, for any step.
+#![tactic(auto)]
+
 ghost use Rattle.std.specs.Prelude.{◌≡◌};
 ghost use Rattle.turns.specs.Held.{none, joined, rest, Kept};
 
@@ -12,7 +14,7 @@ pub enum Next {
 }
 
 // The bytes of the window from `from` up to `held` are still to be treated; `ended` says that no more will come.
-#[derive(Drop)]
+#[derive(Clone, Copy)]
 pub struct Hold {
     pub from: usize,
     pub held: usize,

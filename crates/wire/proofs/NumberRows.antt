@@ -12,7 +12,7 @@ use Rattle.layout.proofs.laws.Make.{Spanned, there, short, spanned, span_there}
 use Rattle.layout.proofs.laws.Reading.{cut_at, span_more}
 use Rattle.wire.specs.Layout.{Kind, width, one, undef, shape}
 use Rattle.wire.specs.Tidy.{row_word, value_word, types}
-use Rattle.wire.proofs.Values.{value_one, value_undef}
+use Rattle.wire.proofs.ValueLaws.{value_one, value_undef}
 use Rattle.wire.proofs.RowWords.{types_one, sum_start, sum_more, sum_bad}
 
 -- a row of one type: its first value, then the others

@@ -28,7 +28,7 @@ use Rattle.wire.specs.Tidy.{row_word, types}
 use Rattle.wire.specs.TidyProperty.{values_word, header_word, range_word, list_word, form_word, property_word, Taken, WellForm, Well}
 use Rattle.wire.proofs.Described.{row_values, slot-in, values-in, properties}
 use Rattle.wire.proofs.laws.Formats.{row_format, property_format}
-use Rattle.wire.proofs.Values.{shaped_shrinks}
+use Rattle.wire.proofs.ValueLaws.{shaped_shrinks}
 
 -- ── the sizes ──
 

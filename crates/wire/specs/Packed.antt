@@ -11,7 +11,7 @@ use Rattle.wire.specs.declared.container.Command.{Command}
 -- u32 length of the whole, u16 kind, u16 code, u32 transaction number, payload
 abbrev pub ContainerWrites : ℕ → ℕ → ℕ → List ℕ → Said → Type 0
 ContainerWrites kind code number payload =
-    (kind < 1) ⊎ (4 < kind) gives no (bare KIND) else
+    ((kind < 1) ⊎ (4 < kind)) gives no (bare KIND) else
     4294967283 < length payload gives no (bare COUNT) else
     Otherwise (says (bytes 4 (12 + length payload) ++ bytes 2 kind ++ bytes 2 code ++ bytes 4 number ++ payload))
 

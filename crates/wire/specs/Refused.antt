@@ -30,7 +30,7 @@ abbrev pub HeaderTests : {A : Type 0} → ℕ → List ℕ → (Answer A → Typ
 HeaderTests at d rest =
     length d < 4 gives refused (end_at at) else
     length d < 6 gives refused (end_at (at + 4)) else
-    (kind_in d < 1) ⊎ (4 < kind_in d) gives refused (bare KIND) else
+    ((kind_in d < 1) ⊎ (4 < kind_in d)) gives refused (bare KIND) else
     length d < 8 gives refused (end_at (at + 6)) else
     length d < 12 gives refused (end_at (at + 8)) else
     announced d < 12 gives refused (bare LENGTH) else

@@ -7,7 +7,7 @@ ghost use Rattle.wire.specs.Says.{says_kind, says_known, says_shape};
 // A string's type code.
 pub const STRING: u16 = 0xFFFF;
 
-#[derive(Drop)]
+#[derive(Clone, Copy)]
 pub enum Kind {
     I8,
     U8,

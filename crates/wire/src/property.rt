@@ -16,28 +16,28 @@ pub enum PropLayout {
 }
 
 // The `IsEnable` byte, where the layout has it.
-#[derive(Drop)]
+#[derive(Clone, Copy)]
 pub enum Enable {
     There(u8),
     Absent,
 }
 
 // The bytes of a value, or of several.
-#[derive(Drop)]
+#[derive(Clone, Copy)]
 pub struct Slot {
     pub start: usize,
     pub len: usize,
 }
 
 // Minimum, maximum and step; or the bytes of a list's values, and how many they are.
-#[derive(Drop)]
+#[derive(Clone, Copy)]
 pub enum Form {
     Absent,
     Range(Slot, Slot, Slot),
     List(Slot, u16),
 }
 
-#[derive(Drop)]
+#[derive(Clone, Copy)]
 pub struct PropInfo {
     pub property_code: u16,
     pub data_type: u16,

@@ -14,7 +14,6 @@ use Rattle.layout.specs.Fault.{Fault, Begins, Spoilt, Ends, BadText, Refuses, Se
 use Rattle.layout.specs.Format.{Stands, Sound, word, none, Format}
 use Rattle.layout.specs.Grammar.{Grammar}
 use Rattle.layout.specs.Placed.{Placed}
-use Rattle.layout.specs.Refusals.{END, TEXT}
 use Rattle.layout.proofs.laws.Final.{end_not_text, stays_text, Bytes-append}
 use Rattle.layout.proofs.laws.Meets.{accepted}
 use Rattle.layout.proofs.laws.Reading.{not_meant, refused_meant}

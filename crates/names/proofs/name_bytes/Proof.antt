@@ -8,5 +8,5 @@ returns : tie.Need-returns
 unfolding name_bytes responses commands
 returns c = refl
 
-pub name-bytes-spec : {M : Type 1} → statement M
-name-bytes-spec = tie.close (tie.spec returns)
+pub name_bytes_spec : {M : Type 1} → statement M
+name_bytes_spec = tie.close (tie.spec returns)

@@ -4,7 +4,7 @@ use Rattle.turns.proofs.join.Statement.{statement}
 use Rattle.turns.proofs.join.Tie as tie
 
 returns : tie.Need-returns
-returns c = rw c.wrapping-add-usize.ensures
+returns c = rw c.wrapping_add_usize.ensures
 
-pub join-spec : {M : Type 1} → statement M
-join-spec = tie.close (tie.spec (λ c κs. search rules) returns)
+pub join_spec : {M : Type 1} → statement M
+join_spec = tie.close (tie.spec (λ c κs. search rules) returns)

@@ -61,14 +61,14 @@ least_row {A} {Q} m n x {y} f = go (leb m n) refl
     go true e = fails (enough (leb-true m n e)) (f (leb-true m n e))
     go false e = holds (leb-false m n e)
 
-pub range_row : {A : Type 0} {Q : A → Type 0} (n k : ℕ) (x : A) {y : A} → (1 ≤ k → k ≤ n → Q x) → ((k < 1) ⊎ (n < k) gives y else Q) (pick (pick (leb 1 k) (leb k n) false) x y)
+pub range_row : {A : Type 0} {Q : A → Type 0} (n k : ℕ) (x : A) {y : A} → (1 ≤ k → k ≤ n → Q x) → (((k < 1) ⊎ (n < k)) gives y else Q) (pick (pick (leb 1 k) (leb k n) false) x y)
 range_row {A} {Q} n k x {y} f = go (leb 1 k) refl (leb k n) refl
   where
     neither : 1 ≤ k → k ≤ n → (k < 1) ⊎ (n < k) → ⊥
     neither low high (inl h) = enough low h
     neither low high (inr h) = enough high h
 
-    go : (a : Bool) → leb 1 k ≡ a → (b : Bool) → leb k n ≡ b → ((k < 1) ⊎ (n < k) gives y else Q) (pick (pick a b false) x y)
+    go : (a : Bool) → leb 1 k ≡ a → (b : Bool) → leb k n ≡ b → (((k < 1) ⊎ (n < k)) gives y else Q) (pick (pick a b false) x y)
     go false e b d = holds (inl (leb-false 1 k e))
     go true e false d = holds (inr (leb-false k n d))
     go true e true d = fails (neither (leb-true 1 k e) (leb-true k n d)) (f (leb-true 1 k e) (leb-true k n d))

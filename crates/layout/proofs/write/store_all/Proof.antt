@@ -7,14 +7,14 @@ use Rattle.layout.proofs.laws.Writing.{Owes, start, byte, end, bytes_step, bytes
 use Rattle.layout.proofs.write.store_all.Statement.{statement}
 use Rattle.layout.proofs.write.store_all.Tie as tie
 
-abbrev invariant-loop : tie.invariant-loop
+abbrev invariant-loop : tie.invariant-loop-left
 invariant-loop out₀ at n x o₀ left₀ rest₀ out o left rest = Owes out o (bytes left rest) out₀ at (bytes n x) × (o + left ≡ at + n) × (left ≤ n)
 
-abbrev decreases-loop : tie.decreases-loop
+abbrev decreases-loop : tie.decreases-loop-left
 decreases-loop out₀ at n x o₀ left₀ rest₀ out o left rest = left
 
-pub store-all-spec : {M : Type 1} → statement M
-store-all-spec =
+pub store_all_spec : {M : Type 1} → statement M
+store_all_spec =
     tie.close
     (tie.spec
     invariant-loop
@@ -25,6 +25,6 @@ store-all-spec =
     (λ c. omega arith)
     (λ c. omega arith)
     (λ c. omega arith)
-    (λ c. (byte (bytes_step _ _ c.loop-test.true) c.before.loop.invariant.0, omega arith, omega arith))
-    (λ c. c.before.loop.invariant.0.long)
-    (λ c. end (bytes_none _ _ c.loop-test.false) c.before.loop.invariant.0))
+    (λ c. (byte (bytes_step _ _ c.loop-left-test.true) c.before.loop-left.invariant.0, omega arith, omega arith))
+    (λ c. c.before.loop-left.invariant.0.long)
+    (λ c. end (bytes_none _ _ c.loop-left-test.false) c.before.loop-left.invariant.0))

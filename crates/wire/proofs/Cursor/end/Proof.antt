@@ -7,18 +7,18 @@ use borrow.Author.Rules.{rules}
 use Rattle.wire.proofs.Cursor.end.Statement.{statement}
 use Rattle.wire.proofs.Cursor.end.Tie as tie
 
-returns : tie.Need-returns
+returns : tie.Need-returns-then-at-s
 unfolding filled_at
 returns c =
-    simp (lt-ltb _ _ c.before.if1.true) (ap refused c.plain.ensures)
+    simp (lt-ltb _ _ c.if-at-s.true) (ap refused c.plain.ensures)
 
-returns-2 : tie.Need-returns-2
+returns-2 : tie.Need-returns
 unfolding filled_at
 returns-2 c =
-    simp (le-ltb _ _ c.if1.false)
+    simp (le-ltb _ _ c.if-at-s.false)
 
-pub end-spec : {M : Type 1} → statement M
-end-spec =
+pub end_spec : {M : Type 1} → statement M
+end_spec =
     tie.close
     (tie.spec
     (λ c κs. search rules)

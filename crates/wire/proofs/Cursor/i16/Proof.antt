@@ -9,13 +9,13 @@ use Rattle.wire.proofs.Twos.{narrow_fits, narrow_says}
 use Rattle.wire.proofs.Cursor.i16.Statement.{statement}
 use Rattle.wire.proofs.Cursor.i16.Tie as tie
 
-pub i16-spec : {M : Type 1} → statement M
-i16-spec =
+pub i16_spec : {M : Type 1} → statement M
+i16_spec =
     tie.close
     (tie.spec
     (λ c κs. search rules)
     (λ c. search rules)
-    (λ c. narrow_fits w16 2 refl (lit≤ tt) c.before.v.given.1 c.before.before.before.Int-at.ensures)
+    (λ c. narrow_fits w16 2 refl (lit≤ tt) c.in-Got.is c.int_at.ensures)
     (λ c. search rules)
-    (λ c. narrow_says w16 2 refl (lit≤ tt) c.before.v.given.1 c.before.before.before.Int-at.ensures)
-    (λ c. heard says_i64 c.before.f.given.1 c.before.before.before.Int-at.ensures.says))
+    (λ c. narrow_says w16 2 refl (lit≤ tt) c.in-Got.is c.int_at.ensures)
+    (λ c. heard says_i64 c.in-Refused.is c.int_at.ensures.says))

@@ -9,13 +9,13 @@ use Rattle.wire.proofs.Twos.{narrow_fits, narrow_says}
 use Rattle.wire.proofs.Cursor.i8.Statement.{statement}
 use Rattle.wire.proofs.Cursor.i8.Tie as tie
 
-pub i8-spec : {M : Type 1} → statement M
-i8-spec =
+pub i8_spec : {M : Type 1} → statement M
+i8_spec =
     tie.close
     (tie.spec
     (λ c κs. search rules)
     (λ c. search rules)
-    (λ c. narrow_fits w8 1 refl (lit≤ tt) c.before.v.given.1 c.before.before.before.Int-at.ensures)
+    (λ c. narrow_fits w8 1 refl (lit≤ tt) c.in-Got.is c.int_at.ensures)
     (λ c. search rules)
-    (λ c. narrow_says w8 1 refl (lit≤ tt) c.before.v.given.1 c.before.before.before.Int-at.ensures)
-    (λ c. heard says_i64 c.before.f.given.1 c.before.before.before.Int-at.ensures.says))
+    (λ c. narrow_says w8 1 refl (lit≤ tt) c.in-Got.is c.int_at.ensures)
+    (λ c. heard says_i64 c.in-Refused.is c.int_at.ensures.says))

@@ -8,32 +8,32 @@ use borrow.Author.Rules.{rules}
 use Rattle.wire.proofs.Cursor.item.Statement.{statement}
 use Rattle.wire.proofs.Cursor.item.Tie as tie
 
-returns : tie.Need-returns
+returns : tie.Need-returns-in-Many
 unfolding item_in
 returns c =
-    let a = c.before.before.before.before.before.before.args in
-    c.nth-item.ensures ∙ ap (λ x. item_in x a.n a.s.now a.self.at) (heard says_shape c.before.before.k.given.1 c.before.before.before.before.shape_of.ensures)
+    let a = c.args in
+    c.nth_item.ensures ∙ ap (λ x. item_in x a.n a.s.now a.self.at) (heard says_shape c.in-Many.is c.shape_of.ensures)
 
-returns-2 : tie.Need-returns-2
+returns-2 : tie.Need-returns-in-One
 unfolding item_in
 returns-2 c =
-    let a = c.before.before.before.before.before.args in
-    ap refused c.plain.ensures ∙ ap (λ x. item_in x a.n a.s.now a.self.at) (heard says_shape c.before.enum_told.given.1 c.before.before.before.shape_of.ensures)
+    let a = c.args in
+    ap refused c.plain.ensures ∙ ap (λ x. item_in x a.n a.s.now a.self.at) (heard says_shape c.in-One.is c.shape_of.ensures)
 
-returns-3 : tie.Need-returns-3
+returns-3 : tie.Need-returns-in-Text
 unfolding item_in
 returns-3 c =
-    let a = c.before.before.before.before.before.args in
-    ap refused c.plain2.ensures ∙ ap (λ x. item_in x a.n a.s.now a.self.at) (heard says_shape c.before.enum-told2.given.1 c.before.before.before.shape_of.ensures)
+    let a = c.args in
+    ap refused c.plain-in-Text.ensures ∙ ap (λ x. item_in x a.n a.s.now a.self.at) (heard says_shape c.in-Text.is c.shape_of.ensures)
 
-returns-4 : tie.Need-returns-4
+returns-4 : tie.Need-returns-in-Undef
 unfolding item_in
 returns-4 c =
-    let a = c.before.before.before.before.before.args in
-    ap refused c.plain3.ensures ∙ ap (λ x. item_in x a.n a.s.now a.self.at) (heard says_shape c.before.enum-told3.given.1 c.before.before.before.shape_of.ensures)
+    let a = c.args in
+    ap refused c.plain-in-Undef.ensures ∙ ap (λ x. item_in x a.n a.s.now a.self.at) (heard says_shape c.in-Undef.is c.shape_of.ensures)
 
-pub item-spec : {M : Type 1} → statement M
-item-spec =
+pub item_spec : {M : Type 1} → statement M
+item_spec =
     tie.close
     (tie.spec
     (λ c κs. search rules)

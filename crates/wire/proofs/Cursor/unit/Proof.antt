@@ -11,34 +11,32 @@ use borrow.Author.Rules.{rules}
 use Rattle.wire.proofs.Cursor.unit.Statement.{statement}
 use Rattle.wire.proofs.Cursor.unit.Tie as tie
 
-mul-t12 : tie.Need-overflow-mul-t12
+mul-t12 : tie.Need-overflow_mul-n
 mul-t12 c =
-    let a = c.before.before.before.before.before.before.args in
-    let p = c.before.before.p.given in
-    let st = text_stood a.s.now a.self.at p.0.0 _ (heard says_part p.1 c.before.before.before.before.text.ensures) in
+    let a = c.args in
+    let st = text_stood a.s.now a.self.at c.in-Got.p _ (heard says_part c.in-Got.is c.text.ensures) in
     omega arith
 
-add-t13 : tie.Need-overflow-add-t13
+add-t13 : tie.Need-overflow_add-start
 add-t13 c =
-    let a = c.before.before.before.before.before.before.args in
-    let p = c.before.before.p.given in
-    let st = text_stood a.s.now a.self.at p.0.0 _ (heard says_part p.1 c.before.before.before.before.text.ensures) in
+    let a = c.args in
+    let st = text_stood a.s.now a.self.at c.in-Got.p _ (heard says_part c.in-Got.is c.text.ensures) in
     omega arith
 
-returns : tie.Need-returns
+returns : tie.Need-returns-then-n-count
 unfolding unit_at
 returns c =
-    follow _ (heard says_part c.before.before.before.p.given.1 c.before.before.before.before.before.text.ensures) (simp (lt-ltb _ _ c.before.if1.true) c.u16.ensures)
+    follow _ (heard says_part c.in-Got.is c.text.ensures) (simp (lt-ltb _ _ c.if-n-count.true) c.u16.ensures)
 
-returns-2 : tie.Need-returns-2
+returns-2 : tie.Need-returns-else-n-count
 unfolding unit_at
 returns-2 c =
-    follow _ (heard says_part c.before.before.before.p.given.1 c.before.before.before.before.before.text.ensures) (simp (le-ltb _ _ c.before.if1.false) (ap refused c.plain.ensures))
+    follow _ (heard says_part c.in-Got.is c.text.ensures) (simp (le-ltb _ _ c.if-n-count.false) (ap refused c.plain.ensures))
 
-returns-3 : tie.Need-returns-3
+returns-3 : tie.Need-returns-in-Refused
 unfolding unit_at
 returns-3 c =
-    stop _ (heard says_part c.before.f.given.1 c.before.before.before.text.ensures)
+    stop _ (heard says_part c.in-Refused.is c.text.ensures)
 
 pub unit_spec : {M : Type 1} → statement M
 unit_spec =

@@ -28,33 +28,33 @@ module _ (s : List ℕ) (at : ℕ) where
   unfolding said_of means
   said_refused u e = ap said_of (sym (text_agrees s at) ∙ ap (means (items_in 2 s)) (sym e))
 
-returns : tie.Need-returns
+returns : tie.Need-returns-then-out-count
 returns c =
-    let p = c.before.before.before in
-    let a = p.before.before.before.before.before.args in
-    let l = p.part.given.0.0 in
-    no_room (said_got a.s.now a.self.at _ _ (heard says_part p.part.given.1 p.before.before.text.ensures)) (omega (arith, c.before.if1.true, length_cells 2 l.count (drop l.start a.s.now))) c.plain.ensures
+    let p = c in
+    let a = p.args in
+    let l = p.in-Got.part in
+    no_room (said_got a.s.now a.self.at _ _ (heard says_part p.in-Got.is p.text.ensures)) (omega (arith, c.if-out-count.true, length_cells 2 l.count (drop l.start a.s.now))) c.plain.ensures
 
-copy-units-requires : tie.Need-copy-units-requires
+copy-units-requires : tie.Need-copy_units-requires
 copy-units-requires c κs =
-    let p = c.before.before.before in
-    let a = p.before.before.before.before.before.args in
-    ((text_stood a.s.now a.self.at _ _ (heard says_part p.part.given.1 p.before.before.text.ensures)).fits, c.before.if1.false)
+    let p = c in
+    let a = p.args in
+    ((text_stood a.s.now a.self.at _ _ (heard says_part p.in-Got.is p.text.ensures)).fits, c.if-out-count.false)
 
-returns-2 : tie.Need-returns-2
+returns-2 : tie.Need-returns-else-out-count
 returns-2 c =
-    let p = c.before.before.before.before.before.before in
-    let a = p.before.before.before.before.before.args in
-    let l = p.part.given.0.0 in
-    done (said_got a.s.now a.self.at _ _ (heard says_part p.part.given.1 p.before.before.text.ensures)) (omega (arith, c.before.before.before.before.if1.false, length_cells 2 l.count (drop l.start a.s.now))) c.before.before.copy-units.ensures
+    let p = c in
+    let a = p.args in
+    let l = p.in-Got.part in
+    done (said_got a.s.now a.self.at _ _ (heard says_part p.in-Got.is p.text.ensures)) (omega (arith, c.if-out-count.false, length_cells 2 l.count (drop l.start a.s.now))) c.copy_units.ensures
 
-returns-3 : tie.Need-returns-3
+returns-3 : tie.Need-returns-in-Refused
 returns-3 c =
-    let a = c.before.before.before.before.before.before.args in
-    refusal (said_refused a.s.now a.self.at _ (heard says_part c.before.f.given.1 c.before.before.before.text.ensures))
+    let a = c.args in
+    refusal (said_refused a.s.now a.self.at _ (heard says_part c.in-Refused.is c.text.ensures))
 
-pub units-spec : {M : Type 1} → statement M
-units-spec =
+pub units_spec : {M : Type 1} → statement M
+units_spec =
     tie.close
     (tie.spec
     (λ c κs. search rules)

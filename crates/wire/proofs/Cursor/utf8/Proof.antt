@@ -2,7 +2,7 @@
 use mathlib.Core.Path.{ap, sym, ◌∙◌}
 use native.Mathlib.Omega.{arith}
 use borrow.Author.Rules.{rules}
-use borrow.Author.Tests.{leb-true, leb-false, not-true, not-false}
+use borrow.Author.Tests.{leb-true, leb-false}
 use lib.ListN.{length}
 use Rattle.layout.specs.Written.{said_of}
 use Rattle.layout.proofs.laws.Numbers.{bytes_of}
@@ -17,44 +17,44 @@ use Rattle.wire.proofs.laws.Points.{utf8_got, utf8_refused}
 use Rattle.wire.proofs.Cursor.utf8.Statement.{statement}
 use Rattle.wire.proofs.Cursor.utf8.Tie as tie
 
-has-room-requires : tie.Need-has-room-requires
+has-room-requires : tie.Need-has_room-requires
 has-room-requires c κs =
-    let a = c.before.before.before.before.before.before.before.args in
-    text_units a.s.now (bytes_of a.s.now (λ i. (c.before.before.before.before.before.before.shared-slice-known.given i).fits)) a.self.at _ _ (heard says_part c.before.before.part.given.1 c.before.before.before.before.text.ensures)
+    let a = c.args in
+    text_units a.s.now (bytes_of a.s.now (λ i. (c.shared_slice_known-1.given i).fits)) a.self.at _ _ (heard says_part c.in-Got.is c.text.ensures)
 
-returns : tie.Need-returns
+returns : tie.Need-returns-then-not-has_room
 unfolding said_of
 returns c =
-    let p = c.before.before.before.before.before in
-    let a = p.before.before.before.before.before.args in
-    let bytes = utf8 (items_in 2 a.s.now p.part.given.0.0) in
-    let long = leb-false (length bytes) _ (sym c.before.before.has_room.ensures ∙ not-true _ c.before.if1.true) in
-    no_room (ap said_of (utf8_got a.s.now a.self.at _ _ (heard says_part p.part.given.1 p.before.before.text.ensures))) (omega arith) c.plain.ensures
+    let p = c in
+    let a = p.args in
+    let bytes = utf8 (items_in 2 a.s.now p.in-Got.part) in
+    let long = leb-false (length bytes) _ (sym c.has_room.ensures ∙ c.if-not-has_room.true) in
+    no_room (ap said_of (utf8_got a.s.now a.self.at _ _ (heard says_part p.in-Got.is p.text.ensures))) (omega arith) c.plain.ensures
 
-put-units-requires : tie.Need-put-units-requires
+put-units-requires : tie.Need-put_units-requires
 put-units-requires c κs =
-    let p = c.before.before.before.before.before in
-    let a = p.before.before.before.before.before.args in
-    ((text_stood a.s.now a.self.at _ _ (heard says_part p.part.given.1 p.before.before.text.ensures)).fits, leb-true _ _ (sym c.before.before.has_room.ensures ∙ not-false _ c.before.if1.false))
+    let p = c in
+    let a = p.args in
+    ((text_stood a.s.now a.self.at _ _ (heard says_part p.in-Got.is p.text.ensures)).fits, leb-true _ _ (sym c.has_room.ensures ∙ c.if-not-has_room.false))
 
-returns-2 : tie.Need-returns-2
+returns-2 : tie.Need-returns-else-not-has_room
 unfolding said_of
 returns-2 c =
-    let i = c.before.before.before.before in
-    let p = i.before.before.before.before in
-    let a = p.before.before.before.before.before.args in
-    let bytes = utf8 (items_in 2 a.s.now p.part.given.0.0) in
-    let short = leb-true (length bytes) _ (sym i.before.has_room.ensures ∙ not-false _ i.if1.false) in
-    done (ap said_of (utf8_got a.s.now a.self.at _ _ (heard says_part p.part.given.1 p.before.before.text.ensures))) (omega arith) c.before.before.put-units.ensures
+    let i = c in
+    let p = i in
+    let a = p.args in
+    let bytes = utf8 (items_in 2 a.s.now p.in-Got.part) in
+    let short = leb-true (length bytes) _ (sym i.has_room.ensures ∙ i.if-not-has_room.false) in
+    done (ap said_of (utf8_got a.s.now a.self.at _ _ (heard says_part p.in-Got.is p.text.ensures))) (omega arith) c.put_units.ensures
 
-returns-3 : tie.Need-returns-3
+returns-3 : tie.Need-returns-in-Refused
 unfolding said_of
 returns-3 c =
-    let a = c.before.before.before.before.before.before.args in
-    refusal (ap said_of (utf8_refused a.s.now a.self.at _ (heard says_part c.before.f.given.1 c.before.before.before.text.ensures)))
+    let a = c.args in
+    refusal (ap said_of (utf8_refused a.s.now a.self.at _ (heard says_part c.in-Refused.is c.text.ensures)))
 
-pub utf8-spec : {M : Type 1} → statement M
-utf8-spec =
+pub utf8_spec : {M : Type 1} → statement M
+utf8_spec =
     tie.close
     (tie.spec
     (λ c κs. search rules)

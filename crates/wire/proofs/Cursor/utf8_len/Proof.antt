@@ -11,26 +11,26 @@ use Rattle.wire.proofs.laws.Points.{utf8_got, utf8_refused}
 use Rattle.wire.proofs.Cursor.utf8_len.Statement.{statement}
 use Rattle.wire.proofs.Cursor.utf8_len.Tie as tie
 
-units-len-requires : tie.Need-units-len-requires
+units-len-requires : tie.Need-units_len-requires
 units-len-requires c κs =
-    let a = c.before.before.before.before.before.args in
-    text_units a.s.now (bytes_of a.s.now (λ i. (c.before.before.before.before.shared-slice-known.given i).fits)) a.self.at _ _ (heard says_part c.before.part.given.1 c.before.before.before.text.ensures)
+    let a = c.args in
+    text_units a.s.now (bytes_of a.s.now (λ i. (c.shared_slice_known-1.given i).fits)) a.self.at _ _ (heard says_part c.in-Got.is c.text.ensures)
 
-returns : tie.Need-returns
+returns : tie.Need-returns-in-Got
 unfolding means
 returns c =
-    let a = c.before.before.before.before.before.before.args in
-    rw (utf8_got a.s.now a.self.at _ _ (heard says_part c.before.before.part.given.1 c.before.before.before.before.text.ensures))
-    (ap (λ (k : ℕ). got k c.before.before.part.given.0.1.0.at) c.units-len.ensures)
+    let a = c.args in
+    rw (utf8_got a.s.now a.self.at _ _ (heard says_part c.in-Got.is c.text.ensures))
+    (ap (λ (k : ℕ). got k c.in-Got.next.at) c.units_len.ensures)
 
-returns-2 : tie.Need-returns-2
+returns-2 : tie.Need-returns-in-Refused
 unfolding means
 returns-2 c =
-    let a = c.before.before.before.before.before.args in
-    rw (utf8_refused a.s.now a.self.at _ (heard says_part c.before.f.given.1 c.before.before.before.text.ensures))
+    let a = c.args in
+    rw (utf8_refused a.s.now a.self.at _ (heard says_part c.in-Refused.is c.text.ensures))
 
-pub utf8-len-spec : {M : Type 1} → statement M
-utf8-len-spec =
+pub utf8_len_spec : {M : Type 1} → statement M
+utf8_len_spec =
     tie.close
     (tie.spec
     (λ c κs. search rules)

@@ -7,15 +7,15 @@ use Rattle.wire.specs.Says.{says_shape}
 use Rattle.wire.proofs.Cursor.value.Statement.{statement}
 use Rattle.wire.proofs.Cursor.value.Tie as tie
 
-returns : tie.Need-returns
+returns : tie.Need-returns-in-One
 returns c =
-    let a = c.before.before.before.before.before.before.args in
-    c.number-value.ensures ∙ ap (λ x. shape_at x a.s.now a.self.at) (heard says_shape c.before.before.x.given.1 c.before.before.before.before.shape_of.ensures)
+    let a = c.args in
+    c.number_value.ensures ∙ ap (λ x. shape_at x a.s.now a.self.at) (heard says_shape c.in-One.is c.shape_of-x.ensures)
 
-returns-2 : tie.Need-returns-2
+returns-2 : tie.Need-returns-in_default
 returns-2 c =
-    let a = c.before.before.before.before.args in
-    c.shape-value.ensures ∙ ap (λ x. shape_at x a.s.now a.self.at) c.before.before.shape_of.ensures
+    let a = c.args in
+    c.shape_value.ensures ∙ ap (λ x. shape_at x a.s.now a.self.at) c.shape_of-x.ensures
 
 pub value_spec : {M : Type 1} → statement M
 value_spec =

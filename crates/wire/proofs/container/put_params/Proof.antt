@@ -14,31 +14,31 @@ use Rattle.wire.proofs.laws.Contained.{params_step, params_long}
 use Rattle.wire.proofs.container.put_params.Statement.{statement}
 use Rattle.wire.proofs.container.put_params.Tie as tie
 
-abbrev invariant-loop : tie.invariant-loop
+abbrev invariant-loop : tie.invariant-loop-i
 invariant-loop params count out₀ o₀ i₀ out o i = Put out₀ 0 (param_bytes i params) out o × (i ≤ count)
 
-abbrev decreases-loop : tie.decreases-loop
+abbrev decreases-loop : tie.decreases-loop-i
 decreases-loop params count out₀ o₀ i₀ out o i = count - i
 
-loop-holds : tie.Need-loop-init invariant-loop decreases-loop
+loop-holds : tie.Need-loop-i-init invariant-loop decreases-loop
 unfolding param_bytes
 loop-holds c = (nothing, omega arith)
 
-loop-again : tie.Need-loop-preserved invariant-loop decreases-loop
+loop-again : tie.Need-loop-i-preserved invariant-loop decreases-loop
 loop-again c =
-    let l = c.before.before.before.before.before.before.before in
-    let i = l.loop.i in
-    let ps = l.before.before.args.params.now in
-    let p = rw c.before.before.before.wide.ensures at c.before.before.store.ensures in
-    (rw (params_step i ps) (more l.loop.invariant.0 (bytes 4 (get_or ps i 0)) (omega (arith, length_bytes 4 (get_or ps i 0), params_long i ps)) p), omega arith)
+    let l = c in
+    let i = l.loop-i.i in
+    let ps = l.args.params.now in
+    let p = rw c.wide.ensures at c.store-o.ensures in
+    (rw (params_step i ps) (more l.loop-i.invariant.0 (bytes 4 (get_or ps i 0)) (omega (arith, length_bytes 4 (get_or ps i 0), params_long i ps)) p), omega arith)
 
 returns : tie.Need-returns invariant-loop decreases-loop
 returns c =
-    let h : c.before.loop.i ≡ c.before.before.before.args.count = omega arith in
-    rw h at c.before.loop.invariant.0
+    let h : c.loop-i.i ≡ c.args.count = omega arith in
+    rw h at c.loop-i.invariant.0
 
-pub put-params-spec : {M : Type 1} → statement M
-put-params-spec =
+pub put_params_spec : {M : Type 1} → statement M
+put_params_spec =
     tie.close
     (tie.spec
     invariant-loop
@@ -51,5 +51,5 @@ put-params-spec =
     (λ c. omega arith)
     (λ c. omega arith)
     loop-again
-    (λ c. long c.before.loop.invariant.0)
+    (λ c. long c.loop-i.invariant.0)
     returns)

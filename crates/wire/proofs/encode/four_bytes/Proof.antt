@@ -10,5 +10,5 @@ returns : tie.Need-returns
 unfolding number
 returns c = rw (four_is c.args.c c.requires.0) (omega arith)
 
-pub four-bytes-spec : {M : Type 1} → statement M
-four-bytes-spec = tie.close (tie.spec (λ c. search rules) (λ c. search rules) (λ c. search rules) (λ c. search rules) (λ c. search rules) (λ c. search rules) (λ c. search rules) returns)
+pub four_bytes_spec : {M : Type 1} → statement M
+four_bytes_spec = tie.close (tie.spec (λ c. search rules) (λ c. search rules) (λ c. search rules) (λ c. search rules) (λ c. search rules) (λ c. search rules) (λ c. search rules) returns)

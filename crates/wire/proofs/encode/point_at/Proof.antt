@@ -5,26 +5,26 @@ use Rattle.wire.proofs.laws.Points.{alone, last, pair}
 use Rattle.wire.proofs.encode.point_at.Statement.{statement}
 use Rattle.wire.proofs.encode.point_at.Tie as tie
 
-returns : tie.Need-returns
+returns : tie.Need-returns-then-u-ne54
 returns c =
-    let k = c.before.before.before in
-    alone k.args.s.now k.args.at k.args.left c.before.unit.result k.requires.0 c.before.unit.ensures.0 (omega arith) c.if1.true
+    let k = c in
+    alone k.args.s.now k.args.at k.args.left c.unit-u.result k.requires.0 c.unit-u.ensures.0 (omega arith) c.if-u-ne54.true
 
-returns-2 : tie.Need-returns-2
+returns-2 : tie.Need-returns-then-left-eq1
 returns-2 c =
-    let k = c.before.before.before.before in
-    let w = c.before.before.unit in
-    last k.args.s.now k.args.at k.args.left w.result k.requires.0 w.ensures.0 (omega arith) c.if2.true
+    let k = c in
+    let w = c.unit-u in
+    last k.args.s.now k.args.at k.args.left w.result k.requires.0 w.ensures.0 (omega arith) c.if-left-eq1.true
 
-returns-3 : tie.Need-returns-3
+returns-3 : tie.Need-returns
 returns-3 c =
-    let k = c.before.before.before.before.before.before in
-    let w = c.before.before.before.before.unit in
-    let v = c.before.unit2 in
-    rw c.pair-point.ensures.0 (pair k.args.s.now k.args.at k.args.left w.result k.requires.0 w.ensures.0 (omega arith) v.result v.ensures.0 c.before.before.before.if1.false c.before.before.if2.false)
+    let k = c in
+    let w = c.unit-u in
+    let v = c.unit-v in
+    rw c.pair_point.ensures.0 (pair k.args.s.now k.args.at k.args.left w.result k.requires.0 w.ensures.0 (omega arith) v.result v.ensures.0 c.if-u-ne54.false c.if-left-eq1.false)
 
-pub point-at-spec : {M : Type 1} → statement M
-point-at-spec =
+pub point_at_spec : {M : Type 1} → statement M
+point_at_spec =
     tie.close
     (tie.spec
     (λ c κs. search rules)

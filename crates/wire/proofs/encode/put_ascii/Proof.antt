@@ -12,36 +12,36 @@ use Rattle.wire.proofs.Small.{unit_cons, ascii_byte, ascii_rest, ascii_utf8}
 use Rattle.wire.proofs.encode.put_ascii.Statement.{statement}
 use Rattle.wire.proofs.encode.put_ascii.Tie as tie
 
-abbrev invariant-loop : tie.invariant-loop
+abbrev invariant-loop : tie.invariant-loop-left
 invariant-loop s start count out₀ o at₀ left₀ next₀ out at left next =
     Owes out next (cells 2 left (drop at s)) out₀ o (cells 2 count (drop start s)) × NoneAbove 0x7F (cells 2 left (drop at s)) × (at + left * 2 ≡ start + count * 2) × (left ≤ count) × (next + left ≡ o + count)
 
-abbrev decreases-loop : tie.decreases-loop
+abbrev decreases-loop : tie.decreases-loop-left
 decreases-loop s start count out₀ o at₀ left₀ next₀ out at left next = left
 
-loop-again : tie.Need-loop-preserved invariant-loop decreases-loop
+loop-again : tie.Need-loop-left-preserved invariant-loop decreases-loop
 loop-again c =
-    let l = c.before.before.before.before.before in
-    let s = l.before.before.before.args.s.now in
-    let there : l.loop.at + 1 < length s = omega arith in
-    let some = c.before.before.before.before.loop-test.true in
-    let unit = c.before.unit-of.ensures in
-    let is = c.ascii-of.ensures (omega (arith, ascii_byte s l.loop.at l.loop.left some there l.loop.invariant.1)) ∙ unit in
-    (byte (unit_cons s l.loop.at l.loop.left some there c.ascii-of.result is) l.loop.invariant.0, ascii_rest s l.loop.at l.loop.left some there l.loop.invariant.1, omega arith, omega arith, omega arith)
+    let l = c in
+    let s = l.args.s.now in
+    let there : l.loop-left.at + 1 < length s = omega arith in
+    let some = c.loop-left-test.true in
+    let unit = c.unit_of.ensures in
+    let is = c.ascii_of.ensures (omega (arith, ascii_byte s l.loop-left.at l.loop-left.left some there l.loop-left.invariant.1)) ∙ unit in
+    (byte (unit_cons s l.loop-left.at l.loop-left.left some there c.ascii_of.result is) l.loop-left.invariant.0, ascii_rest s l.loop-left.at l.loop-left.left some there l.loop-left.invariant.1, omega arith, omega arith, omega arith)
 
 returns : tie.Need-returns invariant-loop decreases-loop
 returns c =
-    let k = c.before.before.before.before in
+    let k = c in
     rw (ascii_utf8 (cells 2 k.args.count (drop k.args.start k.args.s.now)) k.requires.1.0)
-    (end (cells_none _ (drop c.before.loop.at k.args.s.now) c.loop-test.false) c.before.loop.invariant.0)
+    (end (cells_none _ (drop c.loop-left.at k.args.s.now) c.loop-left-test.false) c.loop-left.invariant.0)
 
-pub put-ascii-spec : {M : Type 1} → statement M
-put-ascii-spec =
+pub put_ascii_spec : {M : Type 1} → statement M
+put_ascii_spec =
     tie.close
     (tie.spec
     invariant-loop
     decreases-loop
-    (λ c. (start, c.before.before.requires.1.0, refl, omega arith, refl))
+    (λ c. (start, c.requires.1.0, refl, omega arith, refl))
     (λ c. omega arith)
     (λ c. omega arith)
     (λ c. omega arith)
@@ -53,5 +53,5 @@ put-ascii-spec =
     (λ c. omega arith)
     (λ c. omega arith)
     loop-again
-    (λ c. c.before.loop.invariant.0.long)
+    (λ c. c.loop-left.invariant.0.long)
     returns)

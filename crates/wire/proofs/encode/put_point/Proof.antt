@@ -8,37 +8,37 @@ use Rattle.wire.proofs.laws.Points.{one_is, one_word, two_word, three_word, four
 use Rattle.wire.proofs.encode.put_point.Statement.{statement}
 use Rattle.wire.proofs.encode.put_point.Tie as tie
 
-one : tie.Need-returns
+one : tie.Need-returns-then-c-lt128
 unfolding number
 one c =
-    let k = c.before.before.before.before.before.before in
+    let k = c in
     let v = k.args.c in
-    let h = c.before.before.before.before.if1.true in
-    roomy (encoded v) (rw (one_word v v (rw (one_is v h) (omega arith)) h) at c.before.before.store.ensures) k.requires.1
+    let h = c.if-c-lt128.true in
+    roomy (encoded v) (rw (one_word v v (rw (one_is v h) (omega arith)) h) at c.store.ensures) k.requires.1
 
-two : tie.Need-returns-2
+two : tie.Need-returns-then-c-lt2048
 two c =
-    let k = c.before.before.before.before.before.before.before.before in
-    let w = c.before.before.before.two_bytes in
-    let is = two_word k.args.c w.result w.ensures.0 c.before.before.before.before.before.before.if1.false c.before.before.before.before.before.if2.true in
-    roomy (encoded k.args.c) (rw is at c.before.before.store2.ensures) k.requires.1
+    let k = c in
+    let w = c.two_bytes in
+    let is = two_word k.args.c w.result w.ensures.0 c.if-c-lt128.false c.if-c-lt2048.true in
+    roomy (encoded k.args.c) (rw is at c.store-then-c-lt2048.ensures) k.requires.1
 
-three : tie.Need-returns-3
+three : tie.Need-returns-then-c-lt65536
 three c =
-    let k = c.before.before.before.before.before.before.before.before.before in
-    let w = c.before.before.before.three_bytes in
-    let is = three_word k.args.c w.result w.ensures c.before.before.before.before.before.before.if2.false c.before.before.before.before.before.if3.true in
-    roomy (encoded k.args.c) (rw is at c.before.before.store3.ensures) k.requires.1
+    let k = c in
+    let w = c.three_bytes in
+    let is = three_word k.args.c w.result w.ensures c.if-c-lt2048.false c.if-c-lt65536.true in
+    roomy (encoded k.args.c) (rw is at c.store-then-c-lt65536.ensures) k.requires.1
 
-four : tie.Need-returns-4
+four : tie.Need-returns
 four c =
-    let k = c.before.before.before.before.before.before.before.before.before in
-    let w = c.before.before.before.four_bytes in
-    let is = four_word k.args.c w.result w.ensures c.before.before.before.before.before.if3.false k.requires.0 in
-    roomy (encoded k.args.c) (rw is at c.before.before.store4.ensures) k.requires.1
+    let k = c in
+    let w = c.four_bytes in
+    let is = four_word k.args.c w.result w.ensures c.if-c-lt65536.false k.requires.0 in
+    roomy (encoded k.args.c) (rw is at c.store-2.ensures) k.requires.1
 
-pub put-point-spec : {M : Type 1} → statement M
-put-point-spec =
+pub put_point_spec : {M : Type 1} → statement M
+put_point_spec =
     tie.close
     (tie.spec
     (λ c κs. search rules)

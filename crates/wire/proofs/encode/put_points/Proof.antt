@@ -10,28 +10,28 @@ use Rattle.wire.proofs.laws.Points.{utf8_step, utf8_none}
 use Rattle.wire.proofs.encode.put_points.Statement.{statement}
 use Rattle.wire.proofs.encode.put_points.Tie as tie
 
-abbrev invariant-loop : tie.invariant-loop
+abbrev invariant-loop : tie.invariant-loop-left
 invariant-loop s start count out₀ o at₀ left₀ next₀ out at left next =
     Owes out next (utf8 (cells 2 left (drop at s))) out₀ o (utf8 (cells 2 count (drop start s))) × (at + left * 2 ≡ start + count * 2) × (left ≤ count) × (o ≤ next)
 
-abbrev decreases-loop : tie.decreases-loop
+abbrev decreases-loop : tie.decreases-loop-left
 decreases-loop s start count out₀ o at₀ left₀ next₀ out at left next = left
 
-put-point-requires : tie.Need-put-point-requires invariant-loop decreases-loop
+put-point-requires : tie.Need-put_point-next-requires invariant-loop decreases-loop
 put-point-requires c κs =
-    let p = c.before.point_at.ensures in
+    let p = c.point_at-p.ensures in
     let size = simp length-append at (ap length (utf8_step p)) in
-    let w = c.before.before.before.loop.invariant.0 in
-    (p.small, omega (arith, c.before.before.before.before.before.before.requires.1, w.place, w.long))
+    let w = c.loop-left.invariant.0 in
+    (p.small, omega (arith, c.requires.1, w.place, w.long))
 
-loop-again : tie.Need-loop-preserved invariant-loop decreases-loop
+loop-again : tie.Need-loop-left-preserved invariant-loop decreases-loop
 loop-again c =
-    let p = c.before.before.before.before.point_at.ensures in
-    let put = c.before.before.put-point.ensures in
-    (part (utf8_step p) c.before.before.before.before.before.before.loop.invariant.0 put, omega (arith, p.there), omega arith, omega (arith, put.place))
+    let p = c.point_at-p.ensures in
+    let put = c.put_point-next.ensures in
+    (part (utf8_step p) c.loop-left.invariant.0 put, omega (arith, p.there), omega arith, omega (arith, put.place))
 
-pub put-points-spec : {M : Type 1} → statement M
-put-points-spec =
+pub put_points_spec : {M : Type 1} → statement M
+put_points_spec =
     tie.close
     (tie.spec
     invariant-loop
@@ -44,5 +44,5 @@ put-points-spec =
     (λ c. omega arith)
     (λ c. omega arith)
     loop-again
-    (λ c. c.before.loop.invariant.0.long)
-    (λ c. end (utf8_none c.before.before.before.before.args.s.now c.before.loop.at c.before.loop.left c.loop-test.false) c.before.loop.invariant.0))
+    (λ c. c.loop-left.invariant.0.long)
+    (λ c. end (utf8_none c.args.s.now c.loop-left.at c.loop-left.left c.loop-left-test.false) c.loop-left.invariant.0))

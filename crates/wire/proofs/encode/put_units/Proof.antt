@@ -6,14 +6,14 @@ use Rattle.wire.proofs.Small.{ascii_long}
 use Rattle.wire.proofs.encode.put_units.Statement.{statement}
 use Rattle.wire.proofs.encode.put_units.Tie as tie
 
-put-ascii-requires : tie.Need-put-ascii-requires
+put-ascii-requires : tie.Need-put_ascii-requires
 put-ascii-requires c κs =
-    let k = c.before.before.before.before.before.before in
-    let a = c.before.before.is_ascii.ensures c.before.if2.true in
+    let k = c in
+    let a = c.is_ascii.ensures c.if-is_ascii.true in
     (k.requires.0, (a, omega (arith, ascii_long k.args.count (drop k.args.start k.args.s.now) a, k.requires.1)))
 
-pub put-units-spec : {M : Type 1} → statement M
-put-units-spec =
+pub put_units_spec : {M : Type 1} → statement M
+put_units_spec =
     tie.close
     (tie.spec
     (λ c κs. search rules)

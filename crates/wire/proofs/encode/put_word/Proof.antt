@@ -21,8 +21,8 @@ returns c =
     let highest : v / 256 / 256 / 256 % 256 ≡ v / 16777216 = omega arith in
     rw (fourth, third, second, high, highest)
 
-pub put-word-spec : {M : Type 1} → statement M
-put-word-spec =
+pub put_word_spec : {M : Type 1} → statement M
+put_word_spec =
     tie.close
     (tie.spec
     (λ c. search rules)

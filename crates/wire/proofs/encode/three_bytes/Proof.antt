@@ -10,5 +10,5 @@ returns : tie.Need-returns
 unfolding number
 returns c = rw (three_is c.args.c c.requires.0 c.requires.1) (omega arith)
 
-pub three-bytes-spec : {M : Type 1} → statement M
-three-bytes-spec = tie.close (tie.spec (λ c. search rules) (λ c. search rules) (λ c. search rules) (λ c. search rules) (λ c. search rules) returns)
+pub three_bytes_spec : {M : Type 1} → statement M
+three_bytes_spec = tie.close (tie.spec (λ c. search rules) (λ c. search rules) (λ c. search rules) (λ c. search rules) (λ c. search rules) returns)

@@ -10,5 +10,5 @@ returns : tie.Need-returns
 unfolding number
 returns c = (rw (two_is c.args.c c.requires.0 c.requires.1) (omega arith), omega arith)
 
-pub two-bytes-spec : {M : Type 1} → statement M
-two-bytes-spec = tie.close (tie.spec (λ c. search rules) (λ c. search rules) (λ c. search rules) returns)
+pub two_bytes_spec : {M : Type 1} → statement M
+two_bytes_spec = tie.close (tie.spec (λ c. search rules) (λ c. search rules) (λ c. search rules) returns)

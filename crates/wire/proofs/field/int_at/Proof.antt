@@ -12,26 +12,25 @@ use Rattle.wire.proofs.field.int_at.Tie as tie
 
 sign-requires : tie.Need-sign-requires
 sign-requires c κs =
-    let small = subst (Small c.before.before.before.before.before.args.w) c.before.v.given.1 c.before.before.before.num-at.ensures.small in
-    (rw c.before.before.before.before.before.requires.2 small, c.before.before.before.before.before.requires.1)
+    let small = subst (Small c.args.w) c.in-Got.is c.num_at.ensures.small in
+    (rw c.requires.2 small, c.requires.1)
 
-returns : tie.Need-returns
+returns : tie.Need-returns-in-Got
 returns c =
-    let v = c.before.before.v in
-    let small = subst (Small c.before.before.before.before.before.before.args.w) v.given.1 c.before.before.before.before.num-at.ensures.small in
-    let same = signed_wide c.before.before.before.before.before.before.args.half v.given.0.0 c.sign.result c.sign.ensures (rw c.before.before.before.before.before.before.requires.2 small) c.before.before.before.before.before.before.requires.1 in
-    let signs = same ∙ rw c.before.before.before.before.before.before.requires.2 at c.sign.ensures in
+    let small = subst (Small c.args.w) c.in-Got.is c.num_at.ensures.small in
+    let same = signed_wide c.args.half c.in-Got.v c.sign.result c.sign.ensures (rw c.requires.2 small) c.requires.1 in
+    let signs = same ∙ rw c.requires.2 at c.sign.ensures in
     record {
-      says = ap (λ z. got z v.given.0.1.0.at) signs ∙ meant (signed (256 ^ c.before.before.before.before.before.before.args.w)) (heard says_number v.given.1 c.before.before.before.before.num-at.ensures.says);
-      small = (v.given.0.0, signs, small);
+      says = ap (λ z. got z c.in-Got.next.at) signs ∙ meant (signed (256 ^ c.args.w)) (heard says_number c.in-Got.is c.num_at.ensures.says);
+      small = (c.in-Got.v, signs, small);
     }
 
-returns-2 : tie.Need-returns-2
+returns-2 : tie.Need-returns-in-Refused
 returns-2 c =
-    record { says = not_meant (signed (256 ^ c.before.before.before.before.before.args.w)) (heard says_number c.before.f.given.1 c.before.before.before.num-at.ensures.says); small = tt }
+    record { says = not_meant (signed (256 ^ c.args.w)) (heard says_number c.in-Refused.is c.num_at.ensures.says); small = tt }
 
-pub int-at-spec : {M : Type 1} → statement M
-int-at-spec =
+pub int_at_spec : {M : Type 1} → statement M
+int_at_spec =
     tie.close
     (tie.spec
     (λ c κs. search rules)

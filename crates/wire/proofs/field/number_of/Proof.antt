@@ -33,17 +33,17 @@ asked s at w n l m few left least =
 
 word-requires : tie.Need-word-requires
 word-requires c κs =
-    let a = c.before.before.before.before.args in
-    let (eight, there, few, same) = asked a.s.now a.at a.w _ _ _ c.before.before.least.ensures c.before.left.ensures c.least2.ensures in
+    let a = c.args in
+    let (eight, there, few, same) = asked a.s.now a.at a.w _ _ _ c.least.ensures c.left.ensures c.least-2.ensures in
     (eight, there)
 
 returns : tie.Need-returns
 returns c =
-    let a = c.before.before.before.before.before.args in
-    let n = c.before.before.before.least.result in
-    let m = c.before.least2.result in
-    let (eight, there, few, same) = asked a.s.now a.at a.w n _ m c.before.before.before.least.ensures c.before.before.left.ensures c.before.least2.ensures in
-    (c.word.ensures.0 ∙ ap number same ∙ rw c.before.before.before.least.ensures, lt_of_lt_of_le c.word.ensures.1 (at_most {w = m} a.w few))
+    let a = c.args in
+    let n = c.least.result in
+    let m = c.least-2.result in
+    let (eight, there, few, same) = asked a.s.now a.at a.w n _ m c.least.ensures c.left.ensures c.least-2.ensures in
+    (c.word.ensures.0 ∙ ap number same ∙ rw c.least.ensures, lt_of_lt_of_le c.word.ensures.1 (at_most {w = m} a.w few))
 
-pub number-of-spec : {M : Type 1} → statement M
-number-of-spec = tie.close (tie.spec (λ c κs. search rules) (λ c κs. search rules) (λ c κs. search rules) word-requires returns)
+pub number_of_spec : {M : Type 1} → statement M
+number_of_spec = tie.close (tie.spec (λ c κs. search rules) (λ c κs. search rules) (λ c κs. search rules) word-requires returns)

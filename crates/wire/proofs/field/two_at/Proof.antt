@@ -8,8 +8,8 @@ use Rattle.layout.proofs.laws.Reading.{follow, stop}
 use Rattle.wire.proofs.field.two_at.Statement.{statement}
 use Rattle.wire.proofs.field.two_at.Tie as tie
 
-pub two-at-spec : {M : Type 1} → statement M
-two-at-spec =
+pub two_at_spec : {M : Type 1} → statement M
+two_at_spec =
     tie.close
     (tie.spec
     (λ c. search rules)
@@ -19,7 +19,7 @@ two-at-spec =
     (λ c. follow _ (sym (span_there _ _ _ _ (omega arith))) (sym (span_there _ _ _ _ (omega arith))))
     (λ c κs. search rules)
     (λ c κs. search rules)
-    (λ c. ap refused c.end-at.ensures ∙ stop _ (sym (span_short _ _ _ _ (omega arith))))
+    (λ c. ap refused c.end_at.ensures ∙ stop _ (sym (span_short _ _ _ _ (omega arith))))
     (λ c. search rules)
     (λ c κs. search rules)
-    (λ c. ap refused c.end-at2.ensures ∙ follow _ (sym (span_there _ _ _ _ (omega arith))) (sym (span_short _ _ _ _ (omega arith)))))
+    (λ c. ap refused c.end_at-2.ensures ∙ follow _ (sym (span_there _ _ _ _ (omega arith))) (sym (span_short _ _ _ _ (omega arith)))))

@@ -8,8 +8,8 @@ returns : tie.Need-returns
 returns c =
     (pair_word c.args.p.high c.args.p.low (omega arith), omega arith, omega arith)
 
-pub pair-bits-spec : {M : Type 1} → statement M
-pair-bits-spec =
+pub pair_bits_spec : {M : Type 1} → statement M
+pair_bits_spec =
     tie.close
     (tie.spec
     returns)

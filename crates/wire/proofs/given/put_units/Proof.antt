@@ -12,23 +12,23 @@ use borrow.Author.Rules.{rules}
 use Rattle.wire.proofs.given.put_units.Statement.{statement}
 use Rattle.wire.proofs.given.put_units.Tie as tie
 
-abbrev invariant-loop : tie.invariant-loop
+abbrev invariant-loop : tie.invariant-loop-i
 invariant-loop units out₀ at o₀ i₀ out o i = Owes out o (units_word (drop i units)) out₀ at (units_word units) × (o ≡ at + i * 2) × (i ≤ length units)
 
-abbrev decreases-loop : tie.decreases-loop
+abbrev decreases-loop : tie.decreases-loop-i
 decreases-loop units out₀ at o₀ i₀ out o i = length units - i
 
-loop-again : tie.Need-loop-preserved invariant-loop decreases-loop
+loop-again : tie.Need-loop-i-preserved invariant-loop decreases-loop
 loop-again c =
-    let a = c.before.before.before.before.before.before.before.before.before.before.args in
-    let l = c.before.before.before.before.before.before.before.loop in
-    let step = rw (← c.before.before.before.wide16.ensures.0) at (units_step a.units.now l.i c.before.before.before.before.before.before.loop-test.true) in
+    let a = c.args in
+    let l = c.loop-i in
+    let step = rw (← c.wide16.ensures.0) at (units_step a.units.now l.i c.loop-i-test.true) in
     let w = l.invariant.0.long in
-    let p = roomy (bytes 2 c.before.before.before.wide16.result) c.before.before.store.ensures (omega (arith, length_bytes 2 c.before.before.before.wide16.result)) in
-    (part step l.invariant.0 p, omega (arith, p.place, length_bytes 2 c.before.before.before.wide16.result), omega arith)
+    let p = roomy (bytes 2 c.wide16.result) c.store-o.ensures (omega (arith, length_bytes 2 c.wide16.result)) in
+    (part step l.invariant.0 p, omega (arith, p.place, length_bytes 2 c.wide16.result), omega arith)
 
-pub put-units-spec : {M : Type 1} → statement M
-put-units-spec =
+pub put_units_spec : {M : Type 1} → statement M
+put_units_spec =
     tie.close
     (tie.spec
     invariant-loop
@@ -41,5 +41,5 @@ put-units-spec =
     (λ c. search rules)
     (λ c. search rules)
     loop-again
-    (λ c. c.before.loop.invariant.0.long)
-    (λ c. end (units_none c.before.before.before.before.args.units.now c.before.loop.i c.loop-test.false) c.before.loop.invariant.0))
+    (λ c. c.loop-i.invariant.0.long)
+    (λ c. end (units_none c.args.units.now c.loop-i.i c.loop-i-test.false) c.loop-i.invariant.0))

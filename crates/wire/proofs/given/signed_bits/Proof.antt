@@ -10,9 +10,9 @@ use Rattle.wire.proofs.given.signed_bits.Tie as tie
 
 returns : tie.Need-returns
 returns c =
-    let b = c.unsigned-bits.ensures in
-    let k = c.before.before in
-    (b.0, b.1 ∙ c.before.signed_word.ensures ∙ ap (unsigned (2 ^ 64)) (to_z-of_z w64 k.args.z k.ranges.z), b.2)
+    let b = c.unsigned_bits.ensures in
+    let k = c in
+    (b.0, b.1 ∙ c.signed_word.ensures ∙ ap (unsigned (2 ^ 64)) (to_z-of_z w64 k.args.z k.ranges.z), b.2)
 
-pub signed-bits-spec : {M : Type 1} → statement M
-signed-bits-spec = tie.close (tie.spec (λ c κs. search rules) (λ c κs. search rules) returns)
+pub signed_bits_spec : {M : Type 1} → statement M
+signed_bits_spec = tie.close (tie.spec (λ c κs. search rules) (λ c κs. search rules) returns)

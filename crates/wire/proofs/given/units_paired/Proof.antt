@@ -3,35 +3,34 @@ use mathlib.Core.Path.{◌≡◌, sym, ◌∙◌, refl}
 use Prim.Native.Nat.{◌≤◌, ◌-◌}
 use native.Mathlib.Omega.{arith}
 use lib.ListN.{length, drop}
-use borrow.Author.Tests.{not-true, not-false}
 use Rattle.wire.specs.Layout.{pairs}
 use Rattle.wire.proofs.Texts.{list_no, list_on, list_end}
 use borrow.Author.Rules.{rules}
 use Rattle.wire.proofs.given.units_paired.Statement.{statement}
 use Rattle.wire.proofs.given.units_paired.Tie as tie
 
-abbrev invariant-loop : tie.invariant-loop
+abbrev invariant-loop : tie.invariant-loop-i
 invariant-loop units last₀ i₀ last i = (pairs last (drop i units) ≡ pairs 0 units) × (i ≤ length units)
 
-abbrev decreases-loop : tie.decreases-loop
+abbrev decreases-loop : tie.decreases-loop-i
 decreases-loop units last₀ i₀ last i = length units - i
 
-returns : tie.Need-returns invariant-loop decreases-loop
+returns : tie.Need-returns-then-not-follows invariant-loop decreases-loop
 returns c =
-    let l = c.before.before.before.before.before.loop in
-    list_no l.last c.before.before.wide16.result c.before.before.before.before.before.before.before.args.units.now l.i c.before.before.before.before.loop-test.true c.before.before.wide16.ensures.0 (sym c.before.follows.ensures ∙ not-true _ c.if1.true) ∙ l.invariant.0
+    let l = c.loop-i in
+    list_no l.last c.wide16-u.result c.args.units.now l.i c.loop-i-test.true c.wide16-u.ensures.0 (sym c.follows.ensures ∙ c.if-not-follows.true) ∙ l.invariant.0
 
-loop-again : tie.Need-loop-preserved invariant-loop decreases-loop
+loop-again : tie.Need-loop-i-preserved invariant-loop decreases-loop
 loop-again c =
-    let l = c.before.before.before.before.before.loop in
-    (list_on l.last c.before.before.wide16.result c.before.before.before.before.before.before.before.args.units.now l.i c.before.before.before.before.loop-test.true c.before.before.wide16.ensures.0 (sym c.before.follows.ensures ∙ not-false _ c.if1.false) ∙ l.invariant.0, omega arith)
+    let l = c.loop-i in
+    (list_on l.last c.wide16-u.result c.args.units.now l.i c.loop-i-test.true c.wide16-u.ensures.0 (sym c.follows.ensures ∙ c.if-not-follows.false) ∙ l.invariant.0, omega arith)
 
-returns-2 : tie.Need-returns-2 invariant-loop decreases-loop
+returns-2 : tie.Need-returns invariant-loop decreases-loop
 returns-2 c =
-    list_end c.before.loop.last c.before.before.before.args.units.now c.before.loop.i c.loop-test.false ∙ c.before.loop.invariant.0
+    list_end c.loop-i.last c.args.units.now c.loop-i.i c.loop-i-test.false ∙ c.loop-i.invariant.0
 
-pub units-paired-spec : {M : Type 1} → statement M
-units-paired-spec =
+pub units_paired_spec : {M : Type 1} → statement M
+units_paired_spec =
     tie.close
     (tie.spec
     invariant-loop

@@ -9,28 +9,28 @@ use borrow.Author.Rules.{rules}
 use Rattle.wire.proofs.given.write_array.Statement.{statement}
 use Rattle.wire.proofs.given.write_array.Tie as tie
 
-returns : tie.Need-returns
+returns : tie.Need-returns-in-Many
 unfolding shape_said
 returns c =
-    rw (← heard says_shape c.before.before.before.before.before.before.k.given.1 c.before.before.before.before.before.before.before.before.shape_of.ensures, ← c.before.before.before.before.width_of_lem.ensures.0) c.before.before.write-items.ensures
+    rw (← heard says_shape c.in-Many.is c.shape_of.ensures, ← c.width_of.ensures.0) c.write_items.ensures
 
-returns-2 : tie.Need-returns-2
+returns-2 : tie.Need-returns-in-One
 unfolding shape_said
 returns-2 c =
-    let a = c.before.before.before.before.before.before.args in
-    refusal (ap (λ x. shape_said x a.items.now) (sym (heard says_shape c.before.enum_told.given.1 c.before.before.before.shape_of.ensures)) ∙ ap no (sym c.plain.ensures))
+    let a = c.args in
+    refusal (ap (λ x. shape_said x a.items.now) (sym (heard says_shape c.in-One.is c.shape_of.ensures)) ∙ ap no (sym c.plain.ensures))
 
-returns-3 : tie.Need-returns-3
+returns-3 : tie.Need-returns-in-Text
 unfolding shape_said
 returns-3 c =
-    let a = c.before.before.before.before.before.before.args in
-    refusal (ap (λ x. shape_said x a.items.now) (sym (heard says_shape c.before.enum-told2.given.1 c.before.before.before.shape_of.ensures)) ∙ ap no (sym c.plain2.ensures))
+    let a = c.args in
+    refusal (ap (λ x. shape_said x a.items.now) (sym (heard says_shape c.in-Text.is c.shape_of.ensures)) ∙ ap no (sym c.plain-in-Text.ensures))
 
-returns-4 : tie.Need-returns-4
+returns-4 : tie.Need-returns-in-Undef
 unfolding shape_said
 returns-4 c =
-    let a = c.before.before.before.before.before.before.args in
-    refusal (ap (λ x. shape_said x a.items.now) (sym (heard says_shape c.before.enum-told3.given.1 c.before.before.before.shape_of.ensures)) ∙ ap no (sym c.plain3.ensures))
+    let a = c.args in
+    refusal (ap (λ x. shape_said x a.items.now) (sym (heard says_shape c.in-Undef.is c.shape_of.ensures)) ∙ ap no (sym c.plain-in-Undef.ensures))
 
 pub write_array_spec : {M : Type 1} → statement M
 write_array_spec =

@@ -12,23 +12,23 @@ use borrow.Author.Rules.{rules}
 use Rattle.wire.proofs.given.write_integer.Statement.{statement}
 use Rattle.wire.proofs.given.write_integer.Tie as tie
 
-returns : tie.Need-returns
+returns : tie.Need-returns-then-out-b
 returns c =
-    let b = c.before.before.before.bits_of.result in
+    let b = c.bits_of-b.result in
     let long : length (integer_bits b) ≡ b.front + b.back = length-append (bytes b.front b.low) (bytes b.back b.high) ∙ omega (arith, length_bytes b.front b.low, length_bytes b.back b.high) in
-    no_room (ap says (sym c.before.before.before.bits_of.ensures.0)) (omega arith) c.plain.ensures
+    no_room (ap says (sym c.bits_of-b.ensures.0)) (omega arith) c.plain.ensures
 
-returns-2 : tie.Need-returns-2
+returns-2 : tie.Need-returns
 returns-2 c =
-    let b = c.before.before.before.before.before.before.before.before.before.before.bits_of.result in
+    let b = c.bits_of-b.result in
     let f = length_bytes b.front b.low in
     let k = length_bytes b.back b.high in
     let long : length (integer_bits b) ≡ b.front + b.back = length-append (bytes b.front b.low) (bytes b.back b.high) ∙ omega arith in
-    done (ap says (sym c.before.before.before.before.before.before.before.before.before.before.bits_of.ensures.0)) (omega arith)
-    (then_roomy (bytes b.back b.high) (roomy (bytes b.front b.low) c.before.before.before.before.before.before.store.ensures (omega arith)) c.before.before.store2.ensures (omega arith))
+    done (ap says (sym c.bits_of-b.ensures.0)) (omega arith)
+    (then_roomy (bytes b.back b.high) (roomy (bytes b.front b.low) c.store-a.ensures (omega arith)) c.store.ensures (omega arith))
 
-pub write-integer-spec : {M : Type 1} → statement M
-write-integer-spec =
+pub write_integer_spec : {M : Type 1} → statement M
+write_integer_spec =
     tie.close
     (tie.spec
     (λ c κs. search rules)

@@ -13,35 +13,35 @@ use borrow.Author.Rules.{rules}
 use Rattle.wire.proofs.given.write_items.Statement.{statement}
 use Rattle.wire.proofs.given.write_items.Tie as tie
 
-returns : tie.Need-returns
+returns : tie.Need-returns-then-size-w-ne0
 returns c =
-    let k = c.before.before.before.before in
-    refusal (said_part k.args.w k.args.items.now k.requires c.before.if1.true ∙ ap no (sym c.plain.ensures))
+    let k = c in
+    refusal (said_part k.args.w k.args.items.now k.requires c.if-size-w-ne0.true ∙ ap no (sym c.plain.ensures))
 
-returns-2 : tie.Need-returns-2
+returns-2 : tie.Need-returns-then-n-gt4294967295
 returns-2 c =
-    let k = c.before.before.before.before.before in
-    refusal (said_many k.args.w k.args.items.now k.requires c.before.before.if1.false c.before.if2.true ∙ ap no (sym c.plain2.ensures))
+    let k = c in
+    refusal (said_many k.args.w k.args.items.now k.requires c.if-size-w-ne0.false c.if-n-gt4294967295.true ∙ ap no (sym c.plain-then-n-gt4294967295.ensures))
 
-returns-3 : tie.Need-returns-3
+returns-3 : tie.Need-returns-then-out-size
 returns-3 c =
-    let k = c.before.before.before.before.before.before in
+    let k = c in
     let bs = k.args.items.now in
-    let b = bytes_of bs (λ i. (c.before.before.before.before.before.shared-slice-known.given i).fits) in
-    no_room (said_items k.args.w bs k.requires c.before.before.before.if1.false b c.before.before.if2.false) (omega (arith, length-append (bytes 4 (length bs / k.args.w)) bs, length_bytes 4 (length bs / k.args.w))) c.plain3.ensures
+    let b = bytes_of bs (λ i. (c.shared_slice_known-1.given i).fits) in
+    no_room (said_items k.args.w bs k.requires c.if-size-w-ne0.false b c.if-n-gt4294967295.false) (omega (arith, length-append (bytes 4 (length bs / k.args.w)) bs, length_bytes 4 (length bs / k.args.w))) c.plain-then-out-size.ensures
 
-returns-4 : tie.Need-returns-4
+returns-4 : tie.Need-returns
 returns-4 c =
-    let k = c.before.before.before.before.before.before.before.before.before.before.before.before.before in
+    let k = c in
     let bs = k.args.items.now in
-    let b = bytes_of bs (λ i. (c.before.before.before.before.before.before.before.before.before.before.before.before.shared-slice-known.given i).fits) in
+    let b = bytes_of bs (λ i. (c.shared_slice_known-1.given i).fits) in
     let n = length_bytes 4 (length bs / k.args.w) in
     let all = length-append (bytes 4 (length bs / k.args.w)) bs in
-    done (said_items k.args.w bs k.requires c.before.before.before.before.before.before.before.before.before.before.if1.false b c.before.before.before.before.before.before.before.before.before.if2.false) (omega arith)
-    (then_roomy bs (roomy (bytes 4 (length bs / k.args.w)) c.before.before.before.before.before.before.store.ensures (omega arith)) (rw (take-length bs) at c.before.before.copy.ensures) (omega arith))
+    done (said_items k.args.w bs k.requires c.if-size-w-ne0.false b c.if-n-gt4294967295.false) (omega arith)
+    (then_roomy bs (roomy (bytes 4 (length bs / k.args.w)) c.store-a.ensures (omega arith)) (rw (take-length bs) at c.copy.ensures) (omega arith))
 
-pub write-items-spec : {M : Type 1} → statement M
-write-items-spec =
+pub write_items_spec : {M : Type 1} → statement M
+write_items_spec =
     tie.close
     (tie.spec
     (λ c. search rules)

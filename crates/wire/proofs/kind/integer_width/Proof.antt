@@ -7,16 +7,16 @@ use borrow.Author.Rules.{rules}
 use Rattle.wire.proofs.kind.integer_width.Statement.{statement}
 use Rattle.wire.proofs.kind.integer_width.Tie as tie
 
-returns : tie.Need-returns
+returns : tie.Need-returns-in-Is
 unfolding integer_width
-returns c = c.width_of_lem.ensures.0 ∙ ap width_or (heard says_known c.before.before.k.given.1 c.before.before.before.before.kind-of.ensures)
+returns c = c.width_of.ensures.0 ∙ ap width_or (heard says_known c.in-Is.is c.kind_of.ensures)
 
-returns-2 : tie.Need-returns-2
+returns-2 : tie.Need-returns-in-Unknown
 unfolding integer_width
-returns-2 c = ap width_or (heard says_known c.enum_told.given.1 c.before.before.kind-of.ensures)
+returns-2 c = ap width_or (heard says_known c.in-Unknown.is c.kind_of.ensures)
 
-pub integer-width-spec : {M : Type 1} → statement M
-integer-width-spec =
+pub integer_width_spec : {M : Type 1} → statement M
+integer_width_spec =
     tie.close
     (tie.spec
     (λ c κs. search rules)

@@ -9,23 +9,23 @@ use borrow.Author.Rules.{rules}
 use Rattle.wire.proofs.kind.kind_of.Statement.{statement}
 use Rattle.wire.proofs.kind.kind_of.Tie as tie
 
-returns-12 : tie.Need-returns-12
+returns-12 : tie.Need-returns-in_default
 returns-12 c =
-    sym (get_or-eq_default kinds none (past_key 10 _ (past_key 9 _ (past_key 8 _ (past_key 7 _ (past_key 6 _ (past_key 5 _ (past_key 4 _ (past_key 3 _ (past_key 2 _ (past_key 1 _ (past_key 0 _ (omega arith) c.match.rest.0.0.0.0.0.0.0.0.0.0.1) c.match.rest.0.0.0.0.0.0.0.0.0.1) c.match.rest.0.0.0.0.0.0.0.0.1) c.match.rest.0.0.0.0.0.0.0.1) c.match.rest.0.0.0.0.0.0.1) c.match.rest.0.0.0.0.0.1) c.match.rest.0.0.0.0.1) c.match.rest.0.0.0.1) c.match.rest.0.0.1) c.match.rest.0.1) c.match.rest.1))
+    sym (get_or-eq_default kinds none (past_key 10 _ (past_key 9 _ (past_key 8 _ (past_key 7 _ (past_key 6 _ (past_key 5 _ (past_key 4 _ (past_key 3 _ (past_key 2 _ (past_key 1 _ (past_key 0 _ (omega arith) c.in_default.in_default-own.rest.0.0.0.0.0.0.0.0.0.0.1) c.in_default.in_default-own.rest.0.0.0.0.0.0.0.0.0.1) c.in_default.in_default-own.rest.0.0.0.0.0.0.0.0.1) c.in_default.in_default-own.rest.0.0.0.0.0.0.0.1) c.in_default.in_default-own.rest.0.0.0.0.0.0.1) c.in_default.in_default-own.rest.0.0.0.0.0.1) c.in_default.in_default-own.rest.0.0.0.0.1) c.in_default.in_default-own.rest.0.0.0.1) c.in_default.in_default-own.rest.0.0.1) c.in_default.in_default-own.rest.0.1) c.in_default.in_default-own.rest.1))
 
-pub kind-of-spec : {M : Type 1} → statement M
-kind-of-spec =
+pub kind_of_spec : {M : Type 1} → statement M
+kind_of_spec =
     tie.close
     (tie.spec
     (λ c. search rules)
-    (λ c. ap (λ t. get_or kinds t none) (sym c.match.keys2))
-    (λ c. ap (λ t. get_or kinds t none) (sym c.match.keys3))
-    (λ c. ap (λ t. get_or kinds t none) (sym c.match.keys4))
-    (λ c. ap (λ t. get_or kinds t none) (sym c.match.keys5))
-    (λ c. ap (λ t. get_or kinds t none) (sym c.match.keys6))
-    (λ c. ap (λ t. get_or kinds t none) (sym c.match.keys7))
-    (λ c. ap (λ t. get_or kinds t none) (sym c.match.keys8))
-    (λ c. ap (λ t. get_or kinds t none) (sym c.match.keys9))
-    (λ c. ap (λ t. get_or kinds t none) (sym c.match.keys10))
-    (λ c. ap (λ t. get_or kinds t none) (sym c.match.keys11))
+    (λ c. ap (λ t. get_or kinds t none) (sym c.in-1.is))
+    (λ c. ap (λ t. get_or kinds t none) (sym c.in-2.is))
+    (λ c. ap (λ t. get_or kinds t none) (sym c.in-3.is))
+    (λ c. ap (λ t. get_or kinds t none) (sym c.in-4.is))
+    (λ c. ap (λ t. get_or kinds t none) (sym c.in-5.is))
+    (λ c. ap (λ t. get_or kinds t none) (sym c.in-6.is))
+    (λ c. ap (λ t. get_or kinds t none) (sym c.in-7.is))
+    (λ c. ap (λ t. get_or kinds t none) (sym c.in-8.is))
+    (λ c. ap (λ t. get_or kinds t none) (sym c.in-9.is))
+    (λ c. ap (λ t. get_or kinds t none) (sym c.in-10.is))
     returns-12)

@@ -10,30 +10,30 @@ use borrow.Author.Rules.{rules}
 use Rattle.wire.proofs.kind.shape_of.Statement.{statement}
 use Rattle.wire.proofs.kind.shape_of.Tie as tie
 
-returns : tie.Need-returns
+returns : tie.Need-returns-in-Is
 returns c =
-    rw (← heard says_known c.before.k.given.1 c.before.before.before.kind-of.ensures)
+    rw (← heard says_known c.in-Is.is c.kind_of.ensures)
 
-returns-2 : tie.Need-returns-2
+returns-2 : tie.Need-returns-in-Is-kind_of
 returns-2 c =
-    let no = heard says_known c.before.before.before.before.before.enum_told.given.1 c.before.before.before.before.before.before.before.kind-of.ensures in
-    let is = heard says_known c.before.k2.given.1 c.before.before.before.kind-of2.ensures ∙ ap (λ t. get_or kinds t none) c.before.before.before.before.item_of.ensures in
+    let no = heard says_known c.in-Unknown.is c.kind_of.ensures in
+    let is = heard says_known c.in-Is-kind_of.is c.kind_of-in-Unknown.ensures ∙ ap (λ t. get_or kinds t none) c.item_of.ensures in
     rw (← no, ← is)
 
-returns-3 : tie.Need-returns-3
+returns-3 : tie.Need-returns-then-code-eq-STRING
 returns-3 c =
-    let no = heard says_known c.before.before.before.before.before.enum_told.given.1 c.before.before.before.before.before.before.before.kind-of.ensures in
-    let none-there = heard says_known c.before.enum-told2.given.1 c.before.before.before.kind-of2.ensures ∙ ap (λ t. get_or kinds t none) c.before.before.before.before.item_of.ensures in
-    rw (← no, ← none-there, eq-eqb _ _ c.if1.true)
+    let no = heard says_known c.in-Unknown.is c.kind_of.ensures in
+    let none-there = heard says_known c.in-Unknown-kind_of.is c.kind_of-in-Unknown.ensures ∙ ap (λ t. get_or kinds t none) c.item_of.ensures in
+    rw (← no, ← none-there, eq-eqb _ _ c.if-code-eq-STRING.true)
 
-returns-4 : tie.Need-returns-4
+returns-4 : tie.Need-returns-else-code-eq-STRING
 returns-4 c =
-    let no = heard says_known c.before.before.before.before.before.enum_told.given.1 c.before.before.before.before.before.before.before.kind-of.ensures in
-    let none-there = heard says_known c.before.enum-told2.given.1 c.before.before.before.kind-of2.ensures ∙ ap (λ t. get_or kinds t none) c.before.before.before.before.item_of.ensures in
-    rw (← no, ← none-there, ne_eqb _ _ c.if1.false)
+    let no = heard says_known c.in-Unknown.is c.kind_of.ensures in
+    let none-there = heard says_known c.in-Unknown-kind_of.is c.kind_of-in-Unknown.ensures ∙ ap (λ t. get_or kinds t none) c.item_of.ensures in
+    rw (← no, ← none-there, ne_eqb _ _ c.if-code-eq-STRING.false)
 
-pub shape-of-spec : {M : Type 1} → statement M
-shape-of-spec =
+pub shape_of_spec : {M : Type 1} → statement M
+shape_of_spec =
     tie.close
     (tie.spec
     (λ c κs. search rules)

@@ -9,43 +9,43 @@ use borrow.Author.Rules.{rules}
 use Rattle.wire.proofs.later.newer.Statement.{statement}
 use Rattle.wire.proofs.later.newer.Tie as tie
 
-add-end : tie.Need-overflow-add-end
+add-end : tie.Need-overflow_add-end
 add-end c =
-    let a = c.before.before.before.before.args in
-    let n = c.before.newer-place.result in
-    let w = chosen_within (has_enable a.l) a.description.now a.payload.now (bytes_of a.description.now (λ i. (c.before.before.before.shared-slice-known.given i).fits)) n c.before.newer-place.ensures in
+    let a = c.args in
+    let n = c.newer_place-n.result in
+    let w = chosen_within (has_enable a.l) a.description.now a.payload.now (bytes_of a.description.now (λ i. (c.shared_slice_known-1.given i).fits)) n c.newer_place-n.ensures in
     omega (arith, w.0)
 
-part-result-end : tie.Need-slice-bounds-result-end
+part-result-end : tie.Need-slice_bounds-result-end
 part-result-end c =
-    let a = c.before.before.before.before.before.args in
-    let n = c.before.before.newer-place.result in
-    let w = chosen_within (has_enable a.l) a.description.now a.payload.now (bytes_of a.description.now (λ i. (c.before.before.before.before.shared-slice-known.given i).fits)) n c.before.before.newer-place.ensures in
-    omega (arith, w.1 c.if1.true)
+    let a = c.args in
+    let n = c.newer_place-n.result in
+    let w = chosen_within (has_enable a.l) a.description.now a.payload.now (bytes_of a.description.now (λ i. (c.shared_slice_known-1.given i).fits)) n c.newer_place-n.ensures in
+    omega (arith, w.1 c.if-n.true)
 
-returns : tie.Need-returns
+returns : tie.Need-returns-then-n
 returns c =
-    let a = c.before.before.before.before.before.before.args in
-    let n = c.before.before.before.newer-place.result in
+    let a = c.args in
+    let n = c.newer_place-n.result in
     let len : n.start + n.len - n.start ≡ n.len = omega arith in
-    rw (← c.before.before.before.newer-place.ensures, len, c.before.if1.true)
+    rw (← c.newer_place-n.ensures, len, c.if-n.true)
 
-part-result-end-2 : tie.Need-slice-bounds-result-end-2
+part-result-end-2 : tie.Need-slice_bounds-result-end-2
 part-result-end-2 c =
-    let a = c.before.before.before.before.before.args in
-    let n = c.before.before.newer-place.result in
-    let w = chosen_within (has_enable a.l) a.description.now a.payload.now (bytes_of a.description.now (λ i. (c.before.before.before.before.shared-slice-known.given i).fits)) n c.before.before.newer-place.ensures in
-    omega (arith, w.2 c.if1.false)
+    let a = c.args in
+    let n = c.newer_place-n.result in
+    let w = chosen_within (has_enable a.l) a.description.now a.payload.now (bytes_of a.description.now (λ i. (c.shared_slice_known-1.given i).fits)) n c.newer_place-n.ensures in
+    omega (arith, w.2 c.if-n.false)
 
-returns-2 : tie.Need-returns-2
+returns-2 : tie.Need-returns
 returns-2 c =
-    let a = c.before.before.before.before.before.before.args in
-    let n = c.before.before.before.newer-place.result in
+    let a = c.args in
+    let n = c.newer_place-n.result in
     let len : n.start + n.len - n.start ≡ n.len = omega arith in
-    rw (← c.before.before.before.newer-place.ensures, len, c.before.if1.false)
+    rw (← c.newer_place-n.ensures, len, c.if-n.false)
 
-pub newer-spec : {M : Type 1} → statement M
-newer-spec =
+pub newer_spec : {M : Type 1} → statement M
+newer_spec =
     tie.close
     (tie.spec
     (λ c κs. search rules)

@@ -9,22 +9,22 @@ use borrow.Author.Rules.{rules}
 use Rattle.wire.proofs.later.newer_place.Statement.{statement}
 use Rattle.wire.proofs.later.newer_place.Tie as tie
 
-returns-2 : tie.Need-returns-2
+returns-2 : tie.Need-returns-in-Got-whole_value
 returns-2 c =
-    let a = c.before.before.before.before.before.before.before.before.before.args in
-    let p = c.before.before.before.before in
-    let e = heard says_property p.p.given.1 p.before.before.property-info.ensures in
-    rw (← e, fills_whole p.p.given.0.0.data_type a.payload.now (heard says_value c.enum-told2.given.1 c.before.before.whole-value.ensures))
+    let a = c.args in
+    let p = c in
+    let e = heard says_property p.in-Got.is p.property_info.ensures in
+    rw (← e, fills_whole p.in-Got.p.data_type a.payload.now (heard says_value c.in-Got-whole_value.is c.whole_value.ensures))
 
-returns-3 : tie.Need-returns-3
+returns-3 : tie.Need-returns-in-Refused-whole_value
 returns-3 c =
-    let a = c.before.before.before.before.before.before.before.before.before.args in
-    let p = c.before.before.before.before in
-    let e = heard says_property p.p.given.1 p.before.before.property-info.ensures in
-    rw (← e, fills_other p.p.given.0.0.data_type a.payload.now (heard says_value c.enum-told3.given.1 c.before.before.whole-value.ensures))
+    let a = c.args in
+    let p = c in
+    let e = heard says_property p.in-Got.is p.property_info.ensures in
+    rw (← e, fills_other p.in-Got.p.data_type a.payload.now (heard says_value c.in-Refused-whole_value.is c.whole_value.ensures))
 
-pub newer-place-spec : {M : Type 1} → statement M
-newer-place-spec =
+pub newer_place_spec : {M : Type 1} → statement M
+newer_place_spec =
     tie.close
     (tie.spec
     (λ c κs. search rules)
@@ -33,6 +33,6 @@ newer-place-spec =
     (λ c κs. search rules)
     (λ c. search rules)
     (λ c. search rules)
-    (λ c. ap (λ x. newer_from x c.before.before.before.before.before.args.payload.now) (heard says_property c.enum_told.given.1 c.before.before.property-info.ensures))
+    (λ c. ap (λ x. newer_from x c.args.payload.now) (heard says_property c.in-Refused.is c.property_info.ensures))
     returns-2
     returns-3)

@@ -6,18 +6,18 @@ use borrow.Author.Rules.{rules}
 use Rattle.wire.proofs.list.nth.Statement.{statement}
 use Rattle.wire.proofs.list.nth.Tie as tie
 
-returns : tie.Need-returns
+returns : tie.Need-returns-in-Got
 unfolding nth_at
 returns c =
-    follow _ (heard says_property c.before.before.p.given.1 c.before.before.before.before.property-info.ensures) c.nth_of.ensures
+    follow _ (heard says_property c.in-Got.is c.property_info.ensures) c.nth_of.ensures
 
-returns-2 : tie.Need-returns-2
+returns-2 : tie.Need-returns-in-Refused
 unfolding nth_at
 returns-2 c =
-    stop _ (heard says_property c.before.f.given.1 c.before.before.before.property-info.ensures)
+    stop _ (heard says_property c.in-Refused.is c.property_info.ensures)
 
-pub nth-spec : {M : Type 1} → statement M
-nth-spec =
+pub nth_spec : {M : Type 1} → statement M
+nth_spec =
     tie.close
     (tie.spec
     (λ c κs. search rules)

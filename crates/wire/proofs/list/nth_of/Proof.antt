@@ -8,28 +8,28 @@ use borrow.Author.Rules.{rules}
 use Rattle.wire.proofs.list.nth_of.Statement.{statement}
 use Rattle.wire.proofs.list.nth_of.Tie as tie
 
-returns : tie.Need-returns
+returns : tie.Need-returns-then-n-count
 unfolding nth_in
 returns c =
-    rw (ap says_form c.before.before.before.f.given.1, lt-ltb _ _ c.before.if1.true) c.nth-value.ensures
+    rw (ap says_form c.in-List.is, lt-ltb _ _ c.if-n-count.true) c.nth_value.ensures
 
-returns-2 : tie.Need-returns-2
+returns-2 : tie.Need-returns-else-n-count
 unfolding nth_in
 returns-2 c =
-    rw (ap says_form c.before.before.before.f.given.1, le-ltb _ _ c.before.if1.false) (ap refused c.plain.ensures)
+    rw (ap says_form c.in-List.is, le-ltb _ _ c.if-n-count.false) (ap refused c.plain.ensures)
 
-returns-3 : tie.Need-returns-3
+returns-3 : tie.Need-returns-in-Range
 unfolding nth_in
 returns-3 c =
-    rw (ap says_form c.before.enum_told.given.1) (ap refused c.plain2.ensures)
+    rw (ap says_form c.in-Range.is) (ap refused c.plain-in-Range.ensures)
 
-returns-4 : tie.Need-returns-4
+returns-4 : tie.Need-returns-in-Absent
 unfolding nth_in
 returns-4 c =
-    rw (ap says_form c.before.enum-told2.given.1) (ap refused c.plain3.ensures)
+    rw (ap says_form c.in-Absent.is) (ap refused c.plain-in-Absent.ensures)
 
-pub nth-of-spec : {M : Type 1} → statement M
-nth-of-spec =
+pub nth_of_spec : {M : Type 1} → statement M
+nth_of_spec =
     tie.close
     (tie.spec
     (λ c. search rules)

@@ -7,20 +7,20 @@ use borrow.Author.Rules.{rules}
 use Rattle.wire.proofs.list.nth_value.Statement.{statement}
 use Rattle.wire.proofs.list.nth_value.Tie as tie
 
-returns : tie.Need-returns
+returns : tie.Need-returns-in-Till
 unfolding nth_value
 returns c =
-    let a = c.before.before.before.before.before.before.args in
-    follow _ (values_got a.code a.s.now a.n a.start _ (heard says_span c.before.before.next.given.1 c.before.before.before.before.past-values.ensures)) c.value-slot.ensures
+    let a = c.args in
+    follow _ (values_got a.code a.s.now a.n a.start _ (heard says_span c.in-Till.is c.past_values.ensures)) c.value_slot.ensures
 
-returns-2 : tie.Need-returns-2
+returns-2 : tie.Need-returns-in-Refused
 unfolding nth_value
 returns-2 c =
-    let a = c.before.before.before.before.before.args in
-    stop _ (values_refused a.code a.s.now a.n a.start _ (heard says_span c.before.f.given.1 c.before.before.before.past-values.ensures))
+    let a = c.args in
+    stop _ (values_refused a.code a.s.now a.n a.start _ (heard says_span c.in-Refused.is c.past_values.ensures))
 
-pub nth-value-spec : {M : Type 1} → statement M
-nth-value-spec =
+pub nth_value_spec : {M : Type 1} → statement M
+nth_value_spec =
     tie.close
     (tie.spec
     (λ c κs. search rules)

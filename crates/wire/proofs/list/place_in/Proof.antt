@@ -6,13 +6,13 @@ use borrow.Author.Rules.{rules}
 use Rattle.wire.proofs.list.place_in.Statement.{statement}
 use Rattle.wire.proofs.list.place_in.Tie as tie
 
-pub place-in-spec : {M : Type 1} → statement M
-place-in-spec =
+pub place_in_spec : {M : Type 1} → statement M
+place_in_spec =
     tie.close
     (tie.spec
     (λ c. search rules)
     (λ c. search rules)
     (λ c. search rules)
-    (λ c. ap (λ f. place_in c.before.before.before.args.ty (says_form f)) (sym c.before.f.given.1))
-    (λ c. ap (λ f. place_in c.before.before.args.ty (says_form f)) (sym c.enum_told.given.1))
-    (λ c. ap (λ f. place_in c.before.before.args.ty (says_form f)) (sym c.enum-told2.given.1)))
+    (λ c. ap (λ f. place_in c.args.ty (says_form f)) (sym c.in-List.is))
+    (λ c. ap (λ f. place_in c.args.ty (says_form f)) (sym c.in-Range.is))
+    (λ c. ap (λ f. place_in c.args.ty (says_form f)) (sym c.in-Absent.is)))

@@ -7,13 +7,13 @@ use borrow.Author.Rules.{rules}
 use Rattle.wire.proofs.list.place_of.Statement.{statement}
 use Rattle.wire.proofs.list.place_of.Tie as tie
 
-pub place-of-spec : {M : Type 1} → statement M
-place-of-spec =
+pub place_of_spec : {M : Type 1} → statement M
+place_of_spec =
     tie.close
     (tie.spec
     (λ c κs. search rules)
     (λ c. search rules)
     (λ c κs. search rules)
     (λ c. search rules)
-    (λ c. c.IsPlace-in.ensures ∙ ap place_from (heard says_property c.before.before.p.given.1 c.before.before.before.before.property-info.ensures))
-    (λ c. ap place_from (heard says_property c.before.f.given.1 c.before.before.before.property-info.ensures)))
+    (λ c. c.place_in.ensures ∙ ap place_from (heard says_property c.in-Got.is c.property_info.ensures))
+    (λ c. ap place_from (heard says_property c.in-Refused.is c.property_info.ensures)))

@@ -8,28 +8,28 @@ use borrow.Author.Rules.{rules}
 use Rattle.wire.proofs.list.step_at.Statement.{statement}
 use Rattle.wire.proofs.list.step_at.Tie as tie
 
-returns : tie.Need-returns
+returns : tie.Need-returns-then-refusal-ne0
 unfolding step_at
 returns c =
-    rw (ne_eqb _ _ c.if1.true)
+    rw (ne_eqb _ _ c.if-refusal-ne0.true)
 
-returns-2 : tie.Need-returns-2
+returns-2 : tie.Need-returns-then-left-eq0
 unfolding step_at
 returns-2 c =
-    rw (eq-eqb _ _ c.before.if1.false, eq-eqb _ _ c.if2.true)
+    rw (eq-eqb _ _ c.if-refusal-ne0.false, eq-eqb _ _ c.if-left-eq0.true)
 
-returns-3 : tie.Need-returns-3
+returns-3 : tie.Need-returns-in-Got
 unfolding step_at
 returns-3 c =
-    rw (eq-eqb _ _ c.before.before.before.before.before.if1.false, ne_eqb _ _ c.before.before.before.before.if2.false) (ap (stepped c.before.before.before.before.before.before.before.args.left) (heard says_value c.before.v.given.1 c.before.before.before.value.ensures))
+    rw (eq-eqb _ _ c.if-refusal-ne0.false, ne_eqb _ _ c.if-left-eq0.false) (ap (stepped c.args.left) (heard says_value c.in-Got.is c.value.ensures))
 
-returns-4 : tie.Need-returns-4
+returns-4 : tie.Need-returns-in-Refused
 unfolding step_at
 returns-4 c =
-    rw (eq-eqb _ _ c.before.before.before.before.if1.false, ne_eqb _ _ c.before.before.before.if2.false) (ap (stepped c.before.before.before.before.before.before.args.left) (heard says_value c.enum_told.given.1 c.before.before.value.ensures))
+    rw (eq-eqb _ _ c.if-refusal-ne0.false, ne_eqb _ _ c.if-left-eq0.false) (ap (stepped c.args.left) (heard says_value c.in-Refused.is c.value.ensures))
 
-pub step-at-spec : {M : Type 1} → statement M
-step-at-spec =
+pub step_at_spec : {M : Type 1} → statement M
+step_at_spec =
     tie.close
     (tie.spec
     returns

@@ -8,23 +8,23 @@ use borrow.Author.Rules.{rules}
 use Rattle.wire.proofs.list.value_slot.Statement.{statement}
 use Rattle.wire.proofs.list.value_slot.Tie as tie
 
-sub-t11 : tie.Need-overflow-sub-t11
+sub-t11 : tie.Need-overflow_sub-result
 sub-t11 c =
-    let a = c.before.before.before.before.before.args in
-    located_from a.code a.s.now a.at _ _ (heard says_value c.before.v.given.1 c.before.before.before.value.ensures)
+    let a = c.args in
+    located_from a.code a.s.now a.at _ _ (heard says_value c.in-Got.is c.value.ensures)
 
-returns : tie.Need-returns
+returns : tie.Need-returns-in-Got
 unfolding value_slot
 returns c =
-    follow _ (heard says_value c.before.v.given.1 c.before.before.before.value.ensures) refl
+    follow _ (heard says_value c.in-Got.is c.value.ensures) refl
 
-returns-2 : tie.Need-returns-2
+returns-2 : tie.Need-returns-in-Refused
 unfolding value_slot
 returns-2 c =
-    stop _ (heard says_value c.before.f.given.1 c.before.before.before.value.ensures)
+    stop _ (heard says_value c.in-Refused.is c.value.ensures)
 
-pub value-slot-spec : {M : Type 1} → statement M
-value-slot-spec =
+pub value_slot_spec : {M : Type 1} → statement M
+value_slot_spec =
     tie.close
     (tie.spec
     (λ c κs. search rules)

@@ -6,7 +6,7 @@ use Rattle.wire.proofs.numbers.eight_at.Statement.{statement}
 use Rattle.wire.proofs.numbers.eight_at.Tie as tie
 
 returns : tie.Need-returns
-returns c = let a = c.before.before.before.args in omega (arith, eight_word a.s.now a.at c.before.before.before.requires, c.four-at2.ensures.0, c.before.four-at.ensures.0)
+returns c = let a = c.args in omega (arith, eight_word a.s.now a.at c.requires, c.four_at-2.ensures.0, c.four_at.ensures.0)
 
-pub eight-at-spec : {M : Type 1} → statement M
-eight-at-spec = tie.close (tie.spec (λ c κs. search rules) (λ c. search rules) (λ c κs. search rules) (λ c. search rules) (λ c. search rules) returns)
+pub eight_at_spec : {M : Type 1} → statement M
+eight_at_spec = tie.close (tie.spec (λ c κs. search rules) (λ c. search rules) (λ c κs. search rules) (λ c. search rules) (λ c. search rules) returns)

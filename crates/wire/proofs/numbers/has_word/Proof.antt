@@ -14,38 +14,38 @@ use borrow.Author.Rules.{rules}
 use Rattle.wire.proofs.numbers.has_word.Statement.{statement}
 use Rattle.wire.proofs.numbers.has_word.Tie as tie
 
-abbrev invariant-loop : tie.invariant-loop
+abbrev invariant-loop : tie.invariant-loop-left
 invariant-loop s at n w x found₀ o₀ left₀ found o left = (pick found true (is_in x (cells w left (drop o s))) ≡ is_in x (cells w n (drop at s))) × (left * w ≤ length s - o)
 
-abbrev decreases-loop : tie.decreases-loop
+abbrev decreases-loop : tie.decreases-loop-left
 decreases-loop s at n w x found₀ o₀ left₀ found o left = left
 
-loop-holds : tie.Need-loop-init invariant-loop decreases-loop
-loop-holds c = (refl, c.before.requires.1)
+loop-holds : tie.Need-loop-left-init invariant-loop decreases-loop
+loop-holds c = (refl, c.requires.1)
 
 word-requires : tie.Need-word-requires invariant-loop decreases-loop
 word-requires c κs =
-    let l = c.before in
-    (l.before.before.requires.0, omega (arith, l.loop.invariant.1, times_less l.loop.left l.before.before.args.w c.loop-test.true))
+    let l = c in
+    (l.requires.0, omega (arith, l.loop-left.invariant.1, times_less l.loop-left.left l.args.w c.loop-left-test.true))
 
-add-o : tie.Need-overflow-add-o invariant-loop decreases-loop
+add-o : tie.Need-overflow_add-o invariant-loop decreases-loop
 add-o c =
-    let l = c.before.before.before in
-    record { fits = omega (arith, l.loop.invariant.1, times_less l.loop.left l.before.before.args.w c.before.before.loop-test.true, plain_some l.before.before.requires.0) }
+    let l = c in
+    record { fits = omega (arith, l.loop-left.invariant.1, times_less l.loop-left.left l.args.w c.loop-left-test.true, plain_some l.requires.0) }
 
-loop-again : tie.Need-loop-preserved invariant-loop decreases-loop
+loop-again : tie.Need-loop-left-preserved invariant-loop decreases-loop
 loop-again c =
-    let l = c.before.before.before in
-    let a = l.before.before.args in
-    let more = c.before.before.loop-test.true in
-    let found = c.either.ensures ∙ ap (λ v. pick l.loop.found true (eqb v a.x)) c.before.word.ensures.0 in
-    (rw found (met a.s.now l.loop.o l.loop.left a.w a.x l.loop.found more ∙ l.loop.invariant.0), omega (arith, l.loop.invariant.1, times_less l.loop.left a.w more))
+    let l = c in
+    let a = l.args in
+    let more = c.loop-left-test.true in
+    let found = c.either-found.ensures ∙ ap (λ v. pick l.loop-left.found true (eqb v a.x)) c.word.ensures.0 in
+    (rw found (met a.s.now l.loop-left.o l.loop-left.left a.w a.x l.loop-left.found more ∙ l.loop-left.invariant.0), omega (arith, l.loop-left.invariant.1, times_less l.loop-left.left a.w more))
 
 returns : tie.Need-returns invariant-loop decreases-loop
 returns c =
-    let l = c.before in
-    let a = l.before.before.args in
-    sym (none_met a.s.now l.loop.o l.loop.left a.w a.x l.loop.found c.loop-test.false) ∙ l.loop.invariant.0
+    let l = c in
+    let a = l.args in
+    sym (none_met a.s.now l.loop-left.o l.loop-left.left a.w a.x l.loop-left.found c.loop-left-test.false) ∙ l.loop-left.invariant.0
 
-pub has-word-spec : {M : Type 1} → statement M
-has-word-spec = tie.close (tie.spec invariant-loop decreases-loop loop-holds word-requires (λ c κs. search rules) add-o (λ c. search rules) (λ c. omega (arith, c.before.before.loop-test.true)) loop-again returns)
+pub has_word_spec : {M : Type 1} → statement M
+has_word_spec = tie.close (tie.spec invariant-loop decreases-loop loop-holds word-requires (λ c κs. search rules) add-o (λ c. search rules) (λ c. omega (arith, c.loop-left-test.true)) loop-again returns)

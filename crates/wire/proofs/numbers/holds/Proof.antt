@@ -4,24 +4,24 @@ use Rattle.wire.proofs.NumberWords.{eight}
 use Rattle.wire.proofs.numbers.holds.Statement.{statement}
 use Rattle.wire.proofs.numbers.holds.Tie as tie
 
-has-word-requires-4 : tie.Need-has-word-requires-4
+has-word-requires-4 : tie.Need-has_word-requires-2
 has-word-requires-4 c κs =
-    let p = c.before.before.before.before.requires in
-    let e = eight p.0 c.before.before.if1.false c.before.if2.false c.if3.false in
+    let p = c.requires in
+    let e = eight p.0 c.if-w-eq1.false c.if-w-eq2.false c.if-w-eq4.false in
     (eight_bytes, rw e at p.1)
 
-returns-4 : tie.Need-returns-4
-returns-4 c = rw (eight c.before.before.before.before.before.requires.0 c.before.before.before.if1.false c.before.before.if2.false c.before.if3.false) c.has-word4.ensures
+returns-4 : tie.Need-returns
+returns-4 c = rw (eight c.requires.0 c.if-w-eq1.false c.if-w-eq2.false c.if-w-eq4.false) c.has_word-2.ensures
 
-pub holds-spec : {M : Type 1} → statement M
-holds-spec =
+pub holds_spec : {M : Type 1} → statement M
+holds_spec =
     tie.close
     (tie.spec
-    (λ c κs. let e = c.if1.true in (one_byte, rw e at c.before.before.requires.1))
-    (λ c. rw c.before.if1.true c.Has-word.ensures)
-    (λ c κs. let e = c.if2.true in (two_bytes, rw e at c.before.before.before.requires.1))
-    (λ c. rw c.before.if2.true c.has-word2.ensures)
-    (λ c κs. let e = c.if3.true in (four_bytes, rw e at c.before.before.before.before.requires.1))
-    (λ c. rw c.before.if3.true c.has-word3.ensures)
+    (λ c κs. let e = c.if-w-eq1.true in (one_byte, rw e at c.requires.1))
+    (λ c. rw c.if-w-eq1.true c.has_word.ensures)
+    (λ c κs. let e = c.if-w-eq2.true in (two_bytes, rw e at c.requires.1))
+    (λ c. rw c.if-w-eq2.true c.has_word-then-w-eq2.ensures)
+    (λ c κs. let e = c.if-w-eq4.true in (four_bytes, rw e at c.requires.1))
+    (λ c. rw c.if-w-eq4.true c.has_word-then-w-eq4.ensures)
     has-word-requires-4
     returns-4)

@@ -24,96 +24,96 @@ eight-only t h k = omega arith
 last : (t : ℕ) → 1 ≤ t → t ≤ 8 → (t ≡ 1 → ⊥) → (t ≡ 2 → ⊥) → (t ≡ 3 → ⊥) → (t ≡ 4 → ⊥) → (t ≡ 5 → ⊥) → (t ≡ 6 → ⊥) → (t ≡ 7 → ⊥) → t ≡ 8
 last t h k a b c d e f g = let far = past_key 7 t (past_key 6 t (past_key 5 t (past_key 4 t (past_key 3 t (past_key 2 t (past_key 1 t h a) b) c) d) e) f) g in eight-only t k far
 
-put-words-requires : tie.Need-put-words-requires
+put-words-requires : tie.Need-put_words-requires
 unfolding integer_width
-put-words-requires c κs = let d = c.before.before.before.before in (one_byte, room d 1 c.before.match.keys1, d.requires.3, lit≤ tt)
+put-words-requires c κs = let d = c in (one_byte, room c.before.before.before.before 1 c.in-1.is, d.requires.3, lit≤ tt)
 
-put-words-requires-2 : tie.Need-put-words-requires-2
+put-words-requires-2 : tie.Need-put_words-requires-in-2
 unfolding integer_width
-put-words-requires-2 c κs = let d = c.before.before.before.before in (one_byte, room d 2 c.before.match.keys2, d.requires.3, lit≤ tt)
+put-words-requires-2 c κs = let d = c in (one_byte, room c.before.before.before.before 2 c.in-2.is, d.requires.3, lit≤ tt)
 
-put-words-requires-3 : tie.Need-put-words-requires-3
+put-words-requires-3 : tie.Need-put_words-requires-in-3
 unfolding integer_width
-put-words-requires-3 c κs = let d = c.before.before.before.before in (two_bytes, room d 3 c.before.match.keys3, d.requires.3, lit≤ tt)
+put-words-requires-3 c κs = let d = c in (two_bytes, room c.before.before.before.before 3 c.in-3.is, d.requires.3, lit≤ tt)
 
-put-words-requires-4 : tie.Need-put-words-requires-4
+put-words-requires-4 : tie.Need-put_words-requires-in-4
 unfolding integer_width
-put-words-requires-4 c κs = let d = c.before.before.before.before in (two_bytes, room d 4 c.before.match.keys4, d.requires.3, lit≤ tt)
+put-words-requires-4 c κs = let d = c in (two_bytes, room c.before.before.before.before 4 c.in-4.is, d.requires.3, lit≤ tt)
 
-put-words-requires-5 : tie.Need-put-words-requires-5
+put-words-requires-5 : tie.Need-put_words-requires-in-5
 unfolding integer_width
-put-words-requires-5 c κs = let d = c.before.before.before.before in (four_bytes, room d 5 c.before.match.keys5, d.requires.3, lit≤ tt)
+put-words-requires-5 c κs = let d = c in (four_bytes, room c.before.before.before.before 5 c.in-5.is, d.requires.3, lit≤ tt)
 
-put-words-requires-6 : tie.Need-put-words-requires-6
+put-words-requires-6 : tie.Need-put_words-requires-in-6
 unfolding integer_width
-put-words-requires-6 c κs = let d = c.before.before.before.before in (four_bytes, room d 6 c.before.match.keys6, d.requires.3, lit≤ tt)
+put-words-requires-6 c κs = let d = c in (four_bytes, room c.before.before.before.before 6 c.in-6.is, d.requires.3, lit≤ tt)
 
-put-words-requires-7 : tie.Need-put-words-requires-7
+put-words-requires-7 : tie.Need-put_words-requires-in-7
 unfolding integer_width
-put-words-requires-7 c κs = let d = c.before.before.before.before in (eight_bytes, room d 7 c.before.match.keys7, d.requires.3, lit≤ tt)
+put-words-requires-7 c κs = let d = c in (eight_bytes, room c.before.before.before.before 7 c.in-7.is, d.requires.3, lit≤ tt)
 
-put-words-requires-8 : tie.Need-put-words-requires-8
+put-words-requires-8 : tie.Need-put_words-requires-in_default
 unfolding integer_width
-put-words-requires-8 c κs = let d = c.before.before.before.before in (eight_bytes, room d 8 (last d.args.code d.requires.0 d.requires.1 c.before.match.rest.0.0.0.0.0.0.1 c.before.match.rest.0.0.0.0.0.1 c.before.match.rest.0.0.0.0.1 c.before.match.rest.0.0.0.1 c.before.match.rest.0.0.1 c.before.match.rest.0.1 c.before.match.rest.1), d.requires.3, lit≤ tt)
+put-words-requires-8 c κs = let d = c in (eight_bytes, room c.before.before.before.before 8 (last d.args.code d.requires.0 d.requires.1 c.in_default.in_default-own.rest.0.0.0.0.0.0.1 c.in_default.in_default-own.rest.0.0.0.0.0.1 c.in_default.in_default-own.rest.0.0.0.0.1 c.in_default.in_default-own.rest.0.0.0.1 c.in_default.in_default-own.rest.0.0.1 c.in_default.in_default-own.rest.0.1 c.in_default.in_default-own.rest.1), d.requires.3, lit≤ tt)
 
-returns : tie.Need-returns
+returns : tie.Need-returns-in-1
 unfolding integer_width
 returns c =
-    let d = c.before.before.before.before.before.before.before in
-    let e = c.before.before.before.before.match.keys1 in
-    words_put d.args.code d.args.n d.args.s.now d.args.at (sint 1) 0x80 0xFFFFFFFFFFFFFF00 (bytes_of d.args.s.now (λ i. (c.before.before.before.before.before.before.shared-slice-known.given i).fits)) (ap shape e) (λ v h. signed_extended (256 ^ 1) 0x80 0xFFFFFFFFFFFFFF00 v refl refl h) (room d 1 e) c.before.before.put-words.ensures
+    let d = c in
+    let e = c.in-1.is in
+    words_put d.args.code d.args.n d.args.s.now d.args.at (sint 1) 0x80 0xFFFFFFFFFFFFFF00 (bytes_of d.args.s.now (λ i. (c.shared_slice_known-1.given i).fits)) (ap shape e) (λ v h. signed_extended (256 ^ 1) 0x80 0xFFFFFFFFFFFFFF00 v refl refl h) (room c.before.before.before.before.before.before.before 1 e) c.put_words.ensures
 
-returns-2 : tie.Need-returns-2
+returns-2 : tie.Need-returns-in-2
 unfolding integer_width
 returns-2 c =
-    let d = c.before.before.before.before.before.before.before in
-    let e = c.before.before.before.before.match.keys2 in
-    words_put d.args.code d.args.n d.args.s.now d.args.at (uint 1) 0 0 (bytes_of d.args.s.now (λ i. (c.before.before.before.before.before.before.shared-slice-known.given i).fits)) (ap shape e) (λ v h. plain_extended 0 v) (room d 2 e) c.before.before.put-words2.ensures
+    let d = c in
+    let e = c.in-2.is in
+    words_put d.args.code d.args.n d.args.s.now d.args.at (uint 1) 0 0 (bytes_of d.args.s.now (λ i. (c.shared_slice_known-1.given i).fits)) (ap shape e) (λ v h. plain_extended 0 v) (room c.before.before.before.before.before.before.before 2 e) c.put_words-in-2.ensures
 
-returns-3 : tie.Need-returns-3
+returns-3 : tie.Need-returns-in-3
 unfolding integer_width
 returns-3 c =
-    let d = c.before.before.before.before.before.before.before in
-    let e = c.before.before.before.before.match.keys3 in
-    words_put d.args.code d.args.n d.args.s.now d.args.at (sint 2) 0x8000 0xFFFFFFFFFFFF0000 (bytes_of d.args.s.now (λ i. (c.before.before.before.before.before.before.shared-slice-known.given i).fits)) (ap shape e) (λ v h. signed_extended (256 ^ 2) 0x8000 0xFFFFFFFFFFFF0000 v refl refl h) (room d 3 e) c.before.before.put-words3.ensures
+    let d = c in
+    let e = c.in-3.is in
+    words_put d.args.code d.args.n d.args.s.now d.args.at (sint 2) 0x8000 0xFFFFFFFFFFFF0000 (bytes_of d.args.s.now (λ i. (c.shared_slice_known-1.given i).fits)) (ap shape e) (λ v h. signed_extended (256 ^ 2) 0x8000 0xFFFFFFFFFFFF0000 v refl refl h) (room c.before.before.before.before.before.before.before 3 e) c.put_words-in-3.ensures
 
-returns-4 : tie.Need-returns-4
+returns-4 : tie.Need-returns-in-4
 unfolding integer_width
 returns-4 c =
-    let d = c.before.before.before.before.before.before.before in
-    let e = c.before.before.before.before.match.keys4 in
-    words_put d.args.code d.args.n d.args.s.now d.args.at (uint 2) 0 0 (bytes_of d.args.s.now (λ i. (c.before.before.before.before.before.before.shared-slice-known.given i).fits)) (ap shape e) (λ v h. plain_extended 0 v) (room d 4 e) c.before.before.put-words4.ensures
+    let d = c in
+    let e = c.in-4.is in
+    words_put d.args.code d.args.n d.args.s.now d.args.at (uint 2) 0 0 (bytes_of d.args.s.now (λ i. (c.shared_slice_known-1.given i).fits)) (ap shape e) (λ v h. plain_extended 0 v) (room c.before.before.before.before.before.before.before 4 e) c.put_words-in-4.ensures
 
-returns-5 : tie.Need-returns-5
+returns-5 : tie.Need-returns-in-5
 unfolding integer_width
 returns-5 c =
-    let d = c.before.before.before.before.before.before.before in
-    let e = c.before.before.before.before.match.keys5 in
-    words_put d.args.code d.args.n d.args.s.now d.args.at (sint 4) 0x80000000 0xFFFFFFFF00000000 (bytes_of d.args.s.now (λ i. (c.before.before.before.before.before.before.shared-slice-known.given i).fits)) (ap shape e) (λ v h. signed_extended (256 ^ 4) 0x80000000 0xFFFFFFFF00000000 v refl refl h) (room d 5 e) c.before.before.put-words5.ensures
+    let d = c in
+    let e = c.in-5.is in
+    words_put d.args.code d.args.n d.args.s.now d.args.at (sint 4) 0x80000000 0xFFFFFFFF00000000 (bytes_of d.args.s.now (λ i. (c.shared_slice_known-1.given i).fits)) (ap shape e) (λ v h. signed_extended (256 ^ 4) 0x80000000 0xFFFFFFFF00000000 v refl refl h) (room c.before.before.before.before.before.before.before 5 e) c.put_words-in-5.ensures
 
-returns-6 : tie.Need-returns-6
+returns-6 : tie.Need-returns-in-6
 unfolding integer_width
 returns-6 c =
-    let d = c.before.before.before.before.before.before.before in
-    let e = c.before.before.before.before.match.keys6 in
-    words_put d.args.code d.args.n d.args.s.now d.args.at (uint 4) 0 0 (bytes_of d.args.s.now (λ i. (c.before.before.before.before.before.before.shared-slice-known.given i).fits)) (ap shape e) (λ v h. plain_extended 0 v) (room d 6 e) c.before.before.put-words6.ensures
+    let d = c in
+    let e = c.in-6.is in
+    words_put d.args.code d.args.n d.args.s.now d.args.at (uint 4) 0 0 (bytes_of d.args.s.now (λ i. (c.shared_slice_known-1.given i).fits)) (ap shape e) (λ v h. plain_extended 0 v) (room c.before.before.before.before.before.before.before 6 e) c.put_words-in-6.ensures
 
-returns-7 : tie.Need-returns-7
+returns-7 : tie.Need-returns-in-7
 unfolding integer_width
 returns-7 c =
-    let d = c.before.before.before.before.before.before.before in
-    let e = c.before.before.before.before.match.keys7 in
-    words_put d.args.code d.args.n d.args.s.now d.args.at (sint 8) 0x8000000000000000 0 (bytes_of d.args.s.now (λ i. (c.before.before.before.before.before.before.shared-slice-known.given i).fits)) (ap shape e) (λ v h. signed_extended (256 ^ 8) 0x8000000000000000 0 v refl refl h) (room d 7 e) c.before.before.put-words7.ensures
+    let d = c in
+    let e = c.in-7.is in
+    words_put d.args.code d.args.n d.args.s.now d.args.at (sint 8) 0x8000000000000000 0 (bytes_of d.args.s.now (λ i. (c.shared_slice_known-1.given i).fits)) (ap shape e) (λ v h. signed_extended (256 ^ 8) 0x8000000000000000 0 v refl refl h) (room c.before.before.before.before.before.before.before 7 e) c.put_words-in-7.ensures
 
-returns-8 : tie.Need-returns-8
+returns-8 : tie.Need-returns-in_default
 unfolding integer_width
 returns-8 c =
-    let d = c.before.before.before.before.before.before.before in
-    let e = last d.args.code d.requires.0 d.requires.1 c.before.before.before.before.match.rest.0.0.0.0.0.0.1 c.before.before.before.before.match.rest.0.0.0.0.0.1 c.before.before.before.before.match.rest.0.0.0.0.1 c.before.before.before.before.match.rest.0.0.0.1 c.before.before.before.before.match.rest.0.0.1 c.before.before.before.before.match.rest.0.1 c.before.before.before.before.match.rest.1 in
-    words_put d.args.code d.args.n d.args.s.now d.args.at (uint 8) 0 0 (bytes_of d.args.s.now (λ i. (c.before.before.before.before.before.before.shared-slice-known.given i).fits)) (ap shape e) (λ v h. plain_extended 0 v) (room d 8 e) c.before.before.put-words8.ensures
+    let d = c in
+    let e = last d.args.code d.requires.0 d.requires.1 c.in_default.in_default-own.rest.0.0.0.0.0.0.1 c.in_default.in_default-own.rest.0.0.0.0.0.1 c.in_default.in_default-own.rest.0.0.0.0.1 c.in_default.in_default-own.rest.0.0.0.1 c.in_default.in_default-own.rest.0.0.1 c.in_default.in_default-own.rest.0.1 c.in_default.in_default-own.rest.1 in
+    words_put d.args.code d.args.n d.args.s.now d.args.at (uint 8) 0 0 (bytes_of d.args.s.now (λ i. (c.shared_slice_known-1.given i).fits)) (ap shape e) (λ v h. plain_extended 0 v) (room c.before.before.before.before.before.before.before 8 e) c.put_words-in_default.ensures
 
-pub put-numbers-spec : {M : Type 1} → statement M
-put-numbers-spec =
+pub put_numbers_spec : {M : Type 1} → statement M
+put_numbers_spec =
     tie.close
     (tie.spec
     put-words-requires

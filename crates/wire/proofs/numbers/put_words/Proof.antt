@@ -14,52 +14,52 @@ use Rattle.wire.proofs.laws.Kinds.{plain_some}
 use Rattle.wire.proofs.numbers.put_words.Statement.{statement}
 use Rattle.wire.proofs.numbers.put_words.Tie as tie
 
-abbrev invariant-loop : tie.invariant-loop
+abbrev invariant-loop : tie.invariant-loop-i
 invariant-loop s at n w half top out₀ o₀ i₀ out o i =
     Owes out i (map (extended half top) (cells w (n - i) (drop o s))) out₀ 0 (map (extended half top) (cells w n (drop at s))) × ((n - i) * w ≤ length s - o) × (i ≤ n)
 
-abbrev decreases-loop : tie.decreases-loop
+abbrev decreases-loop : tie.decreases-loop-i
 decreases-loop s at n w half top out₀ o₀ i₀ out o i = n - i
 
-loop-holds : tie.Need-loop-init invariant-loop decreases-loop
-loop-holds c = let a = c.before.before.args in let all : a.n - 0 ≡ a.n = omega arith in (rw all start, rw all c.before.before.requires.1, omega arith)
+loop-holds : tie.Need-loop-i-init invariant-loop decreases-loop
+loop-holds c = let a = c.args in let all : a.n - 0 ≡ a.n = omega arith in (rw all start, rw all c.requires.1, omega arith)
 
 -- the bytes of one more are there
-room : (c : tie.In-loop invariant-loop decreases-loop) → let a = c.before.before.before.before.args in a.w + (a.n - c.before.loop.i - 1) * a.w ≤ length a.s.now - c.before.loop.o
+room : (c : tie.In-loop-i invariant-loop decreases-loop) → let a = c.args in a.w + (a.n - c.loop-i.i - 1) * a.w ≤ length a.s.now - c.loop-i.o
 room c =
-    let a = c.before.before.before.before.args in
-    omega (arith, c.before.loop.invariant.1, times_less (a.n - c.before.loop.i) a.w (omega (arith, c.loop-test.true)))
+    let a = c.args in
+    omega (arith, c.loop-i.invariant.1, times_less (a.n - c.loop-i.i) a.w (omega (arith, c.loop-i-test.true)))
 
 word-requires : tie.Need-word-requires invariant-loop decreases-loop
-word-requires c κs = (c.before.before.before.before.requires.0, omega (arith, room c))
+word-requires c κs = (c.requires.0, omega (arith, room c))
 
 extend-requires : tie.Need-extend-requires invariant-loop decreases-loop
-extend-requires c κs = omega (arith, c.word.ensures.1, c.before.before.before.before.before.requires.3)
+extend-requires c κs = omega (arith, c.word.ensures.1, c.requires.3)
 
-slice-write-out : tie.Need-slice-write-out invariant-loop decreases-loop
-slice-write-out c = let l = c.before.before.before in omega (arith, l.loop.invariant.0.long, c.before.before.loop-test.true, l.before.before.before.requires.2)
+slice-write-out : tie.Need-bounds-out-i invariant-loop decreases-loop
+slice-write-out c = let l = c in omega (arith, l.loop-i.invariant.0.long, c.loop-i-test.true, l.requires.2)
 
-add-o : tie.Need-overflow-add-o invariant-loop decreases-loop
-add-o c = record { fits = omega (arith, room c.before.before, plain_some c.before.before.before.before.before.before.requires.0) }
+add-o : tie.Need-overflow_add-o invariant-loop decreases-loop
+add-o c = record { fits = omega (arith, room c.before.before, plain_some c.requires.0) }
 
-loop-again : tie.Need-loop-preserved invariant-loop decreases-loop
+loop-again : tie.Need-loop-i-preserved invariant-loop decreases-loop
 loop-again c =
-    let l = c.before.before.before in
-    let a = l.before.before.before.args in
-    let more = c.before.before.loop-test.true in
-    let next : a.n - l.loop.i - 1 ≡ a.n - (l.loop.i + 1) = omega arith in
-    let first = cells_on a.w (a.n - l.loop.i) a.s.now l.loop.o (omega (arith, more)) ∙ ap (λ m. number (take a.w (drop l.loop.o a.s.now)) ∷ cells a.w m (drop (l.loop.o + a.w) a.s.now)) next in
-    let is = c.extend.ensures ∙ ap (extended a.half a.top) c.before.word.ensures.0 in
-    (byte (ap (map (extended a.half a.top)) first ∙ ap (λ x. x ∷ map (extended a.half a.top) (cells a.w (a.n - (l.loop.i + 1)) (drop (l.loop.o + a.w) a.s.now))) (sym is)) l.loop.invariant.0, rw (← next) (omega (arith, room c.before.before)), omega arith)
+    let l = c in
+    let a = l.args in
+    let more = c.loop-i-test.true in
+    let next : a.n - l.loop-i.i - 1 ≡ a.n - (l.loop-i.i + 1) = omega arith in
+    let first = cells_on a.w (a.n - l.loop-i.i) a.s.now l.loop-i.o (omega (arith, more)) ∙ ap (λ m. number (take a.w (drop l.loop-i.o a.s.now)) ∷ cells a.w m (drop (l.loop-i.o + a.w) a.s.now)) next in
+    let is = c.extend.ensures ∙ ap (extended a.half a.top) c.word.ensures.0 in
+    (byte (ap (map (extended a.half a.top)) first ∙ ap (λ x. x ∷ map (extended a.half a.top) (cells a.w (a.n - (l.loop-i.i + 1)) (drop (l.loop-i.o + a.w) a.s.now))) (sym is)) l.loop-i.invariant.0, rw (← next) (omega (arith, room c.before.before)), omega arith)
 
 returns : tie.Need-returns invariant-loop decreases-loop
 returns c =
-    let l = c.before in
-    let a = l.before.before.before.args in
-    end (ap (map (extended a.half a.top)) (cells_nil a.w (a.n - l.loop.i) (drop l.loop.o a.s.now) (omega (arith, c.loop-test.false)))) l.loop.invariant.0
+    let l = c in
+    let a = l.args in
+    end (ap (map (extended a.half a.top)) (cells_nil a.w (a.n - l.loop-i.i) (drop l.loop-i.o a.s.now) (omega (arith, c.loop-i-test.false)))) l.loop-i.invariant.0
 
-pub put-words-spec : {M : Type 1} → statement M
-put-words-spec =
+pub put_words_spec : {M : Type 1} → statement M
+put_words_spec =
     tie.close
     (tie.spec
     invariant-loop
@@ -73,5 +73,5 @@ put-words-spec =
     (λ c. omega arith)
     (λ c. omega arith)
     loop-again
-    (λ c. c.before.loop.invariant.0.long)
+    (λ c. c.loop-i.invariant.0.long)
     returns)

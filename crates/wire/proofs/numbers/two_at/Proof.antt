@@ -6,10 +6,10 @@ use Rattle.wire.proofs.numbers.two_at.Statement.{statement}
 use Rattle.wire.proofs.numbers.two_at.Tie as tie
 
 returns : tie.Need-returns
-returns c = let a = c.before.before.before.before.before.args in (omega (arith, two_word a.s.now a.at c.before.before.before.before.before.requires, c.byte2.ensures.0, c.before.before.byte.ensures.0), omega (arith, c.byte2.ensures.1, c.before.before.byte.ensures.1))
+returns c = let a = c.args in (omega (arith, two_word a.s.now a.at c.requires, c.byte-2.ensures.0, c.byte.ensures.0), omega (arith, c.byte-2.ensures.1, c.byte.ensures.1))
 
-pub two-at-spec : {M : Type 1} → statement M
-two-at-spec =
+pub two_at_spec : {M : Type 1} → statement M
+two_at_spec =
     tie.close
     (tie.spec
     (λ c. search rules)

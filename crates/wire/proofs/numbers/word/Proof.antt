@@ -6,27 +6,27 @@ use Rattle.wire.proofs.NumberWords.{one_word, eight}
 use Rattle.wire.proofs.numbers.word.Statement.{statement}
 use Rattle.wire.proofs.numbers.word.Tie as tie
 
-returns : tie.Need-returns
+returns : tie.Need-returns-then-w-eq1
 returns c =
-    let a = c.before.before.before.before.args in
-    rw c.before.before.if1.true (c.byte.ensures.0 ∙ sym (one_word a.s.now a.at (omega (arith, c.before.before.before.before.requires.1, c.before.before.if1.true))), c.byte.ensures.1)
+    let a = c.args in
+    rw c.if-w-eq1.true (c.byte.ensures.0 ∙ sym (one_word a.s.now a.at (omega (arith, c.requires.1, c.if-w-eq1.true))), c.byte.ensures.1)
 
-eight-at-requires : tie.Need-eight-at-requires
-eight-at-requires c κs = omega (arith, c.before.before.before.before.requires.1, eight c.before.before.before.before.requires.0 c.before.before.if1.false c.before.if2.false c.if3.false)
+eight-at-requires : tie.Need-eight_at-requires
+eight-at-requires c κs = omega (arith, c.requires.1, eight c.requires.0 c.if-w-eq1.false c.if-w-eq2.false c.if-w-eq4.false)
 
-returns-4 : tie.Need-returns-4
-returns-4 c = rw (eight c.before.before.before.before.before.requires.0 c.before.before.before.if1.false c.before.before.if2.false c.before.if3.false) (c.eight-at.ensures, omega arith)
+returns-4 : tie.Need-returns
+returns-4 c = rw (eight c.requires.0 c.if-w-eq1.false c.if-w-eq2.false c.if-w-eq4.false) (c.eight_at.ensures, omega arith)
 
-pub word-spec : {M : Type 1} → statement M
-word-spec =
+pub word_spec : {M : Type 1} → statement M
+word_spec =
     tie.close
     (tie.spec
     (λ c. search rules)
     (λ c κs. search rules)
     returns
-    (λ c κs. omega (arith, c.before.before.before.requires.1, c.if2.true))
-    (λ c. rw c.before.if2.true c.two_at.ensures)
-    (λ c κs. omega (arith, c.before.before.before.before.requires.1, c.if3.true))
-    (λ c. rw c.before.if3.true c.four-at.ensures)
+    (λ c κs. omega (arith, c.requires.1, c.if-w-eq2.true))
+    (λ c. rw c.if-w-eq2.true c.two_at.ensures)
+    (λ c κs. omega (arith, c.requires.1, c.if-w-eq4.true))
+    (λ c. rw c.if-w-eq4.true c.four_at.ensures)
     eight-at-requires
     returns-4)

@@ -8,35 +8,35 @@ use Rattle.wire.proofs.object.object_info.Statement.{statement}
 use Rattle.wire.proofs.object.object_info.Tie as tie
 
 -- from where the last field was read back to the call
-abbrev start : tie.After-text4 → tie.Start
-start c = c.before.before.before.before.before.before.before.before.before.before.before.before.before.before.before.before.before.before.before.before.before
+abbrev start : tie.After-text-words → tie.Start
+start c = c.before.before.before.before.before.before.before.before.before.before.before.before.before.before.before.before.before.before.before.before.before.before.before.before.before.before.before.before.before.before.before.before.before.before.before.before.before.before.before
 
 -- the last field is behind the run, and none is left
-abbrev fields : (c : tie.After-text4) → Midway object (start c).args.s.now (start c).args.c.at [] c.text4.result.run
+abbrev fields : (c : tie.After-text-words) → Midway object (start c).args.s.now (start c).args.c.at [] c.text-words.result.run
 fields c =
-    past_text _ c.text4.ensures
-    (past_text _ c.before.text3.ensures
-    (past_text _ c.before.before.text2.ensures
-    (past_text _ c.before.before.before.text.ensures
-    (past_number refl c.before.before.before.before.number15.ensures
-    (past_number refl c.before.before.before.before.before.number14.ensures
-    (past_number refl c.before.before.before.before.before.before.number13.ensures
-    (past_number refl c.before.before.before.before.before.before.before.number12.ensures
-    (past_number refl c.before.before.before.before.before.before.before.before.number11.ensures
-    (past_number refl c.before.before.before.before.before.before.before.before.before.number10.ensures
-    (past_number refl c.before.before.before.before.before.before.before.before.before.before.number9.ensures
-    (past_number refl c.before.before.before.before.before.before.before.before.before.before.before.number8.ensures
-    (past_number refl c.before.before.before.before.before.before.before.before.before.before.before.before.number7.ensures
-    (past_number refl c.before.before.before.before.before.before.before.before.before.before.before.before.before.number6.ensures
-    (past_number refl c.before.before.before.before.before.before.before.before.before.before.before.before.before.before.number5.ensures
-    (past_number refl c.before.before.before.before.before.before.before.before.before.before.before.before.before.before.before.number4.ensures
-    (past_number refl c.before.before.before.before.before.before.before.before.before.before.before.before.before.before.before.before.number3.ensures
-    (past_number refl c.before.before.before.before.before.before.before.before.before.before.before.before.before.before.before.before.before.number2.ensures
-    (past_number refl c.before.before.before.before.before.before.before.before.before.before.before.before.before.before.before.before.before.before.number.ensures
-    (starts object _ _ _ c.before.before.before.before.before.before.before.before.before.before.before.before.before.before.before.before.before.before.before.going.ensures)))))))))))))))))))
+    past_text _ c.text-words.ensures
+    (past_text _ c.text-modified.ensures
+    (past_text _ c.text-captured.ensures
+    (past_text _ c.text-name.ensures
+    (past_number refl c.number-sequence.ensures
+    (past_number refl c.number-association_of.ensures
+    (past_number refl c.number-association.ensures
+    (past_number refl c.number-parent.ensures
+    (past_number refl c.number-depth.ensures
+    (past_number refl c.number-height.ensures
+    (past_number refl c.number-width.ensures
+    (past_number refl c.number-thumb_height.ensures
+    (past_number refl c.number-thumb_width.ensures
+    (past_number refl c.number-thumb_size.ensures
+    (past_number refl c.number-thumb.ensures
+    (past_number refl c.number-size.ensures
+    (past_number refl c.number-protection.ensures
+    (past_number refl c.number-format.ensures
+    (past_number refl c.number-storage.ensures
+    (starts object _ _ _ c.going.ensures)))))))))))))))))))
 
-pub object-info-spec : {M : Type 1} → statement M
-object-info-spec =
+pub object_info_spec : {M : Type 1} → statement M
+object_info_spec =
     tie.close
     (tie.spec
     (λ c κs. search rules)
@@ -59,20 +59,20 @@ object-info-spec =
     (λ c κs. search rules)
     (λ c κs. search rules)
     (λ c κs. search rules)
-    (λ c. record { fits = c.before.before.before.before.before.before.before.before.before.before.before.before.before.before.before.before.before.before.before.before.before.before.before.before.before.before.before.number.ensures.small })
-    (λ c. record { fits = c.before.before.before.before.before.before.before.before.before.before.before.before.before.before.before.before.before.before.before.before.before.before.before.before.before.before.before.number2.ensures.small })
-    (λ c. record { fits = c.before.before.before.before.before.before.before.before.before.before.before.before.before.before.before.before.before.before.before.before.before.before.before.before.before.before.before.number3.ensures.small })
-    (λ c. record { fits = c.before.before.before.before.before.before.before.before.before.before.before.before.before.before.before.before.before.before.before.before.before.before.before.before.before.before.before.number4.ensures.small })
-    (λ c. record { fits = c.before.before.before.before.before.before.before.before.before.before.before.before.before.before.before.before.before.before.before.before.before.before.before.before.before.before.before.number5.ensures.small })
-    (λ c. record { fits = c.before.before.before.before.before.before.before.before.before.before.before.before.before.before.before.before.before.before.before.before.before.before.before.before.before.before.before.number6.ensures.small })
-    (λ c. record { fits = c.before.before.before.before.before.before.before.before.before.before.before.before.before.before.before.before.before.before.before.before.before.before.before.before.before.before.before.number7.ensures.small })
-    (λ c. record { fits = c.before.before.before.before.before.before.before.before.before.before.before.before.before.before.before.before.before.before.before.before.before.before.before.before.before.before.before.number8.ensures.small })
-    (λ c. record { fits = c.before.before.before.before.before.before.before.before.before.before.before.before.before.before.before.before.before.before.before.before.before.before.before.before.before.before.before.number9.ensures.small })
-    (λ c. record { fits = c.before.before.before.before.before.before.before.before.before.before.before.before.before.before.before.before.before.before.before.before.before.before.before.before.before.before.before.number10.ensures.small })
-    (λ c. record { fits = c.before.before.before.before.before.before.before.before.before.before.before.before.before.before.before.before.before.before.before.before.before.before.before.before.before.before.before.number11.ensures.small })
-    (λ c. record { fits = c.before.before.before.before.before.before.before.before.before.before.before.before.before.before.before.before.before.before.before.before.before.before.before.before.before.before.before.number12.ensures.small })
-    (λ c. record { fits = c.before.before.before.before.before.before.before.before.before.before.before.before.before.before.before.before.before.before.before.before.before.before.before.before.before.before.before.number13.ensures.small })
-    (λ c. record { fits = c.before.before.before.before.before.before.before.before.before.before.before.before.before.before.before.before.before.before.before.before.before.before.before.before.before.before.before.number14.ensures.small })
-    (λ c. record { fits = c.before.before.before.before.before.before.before.before.before.before.before.before.before.before.before.before.before.before.before.before.before.before.before.before.before.before.before.number15.ensures.small })
-    (λ c. ends_whole (fields c.before.before.before.before.before.before.before.before.before.before.before.before.before.before.before.before.before.before.before.before.before.before.before) c.before.before.before.before.before.before.before.before.before.before.before.before.before.before.before.if1.true)
-    (λ c. ends_broken (fields c.before.before.before.before.before.before.before.before) c.if1.false))
+    (λ c. record { fits = c.number-storage.ensures.small })
+    (λ c. record { fits = c.number-format.ensures.small })
+    (λ c. record { fits = c.number-protection.ensures.small })
+    (λ c. record { fits = c.number-size.ensures.small })
+    (λ c. record { fits = c.number-thumb.ensures.small })
+    (λ c. record { fits = c.number-thumb_size.ensures.small })
+    (λ c. record { fits = c.number-thumb_width.ensures.small })
+    (λ c. record { fits = c.number-thumb_height.ensures.small })
+    (λ c. record { fits = c.number-width.ensures.small })
+    (λ c. record { fits = c.number-height.ensures.small })
+    (λ c. record { fits = c.number-depth.ensures.small })
+    (λ c. record { fits = c.number-parent.ensures.small })
+    (λ c. record { fits = c.number-association.ensures.small })
+    (λ c. record { fits = c.number-association_of.ensures.small })
+    (λ c. record { fits = c.number-sequence.ensures.small })
+    (λ c. ends_whole (fields c.before.before.before.before.before.before.before.before.before.before.before.before.before.before.before.before.before.before.before.before.before.before.before) c.if-end.true)
+    (λ c. ends_broken (fields c.before.before.before.before.before.before.before.before) c.if-end.false))

@@ -11,37 +11,37 @@ use borrow.Author.Rules.{rules}
 use Rattle.wire.proofs.past.past_each.Statement.{statement}
 use Rattle.wire.proofs.past.past_each.Tie as tie
 
-abbrev invariant-loop : tie.invariant-loop
+abbrev invariant-loop : tie.invariant-loop-left
 invariant-loop code n src first at₀ left₀ at left = passed_at code left src at ≡ passed_at code n src first
 
-abbrev decreases-loop : tie.decreases-loop
+abbrev decreases-loop : tie.decreases-loop-left
 decreases-loop code n src first at₀ left₀ at left = left
 
-returns : tie.Need-returns invariant-loop decreases-loop
+returns : tie.Need-returns-in-Refused invariant-loop decreases-loop
 returns c =
-    let a = c.before.before.before.before.before.before.before.before.args in
-    let l = c.before.before.before.before.before.before.loop in
-    let less : l.left ≡ suc (l.left - 1) = omega (arith, c.before.before.before.before.before.loop-test.true) in
-    let e = heard says_value c.before.f.given.1 (c.before.before.before.shape-value.ensures ∙ ap (λ x. shape_at x a.src.now l.at) c.before.before.before.before.shape_of.ensures) in
+    let a = c.args in
+    let l = c.loop-left in
+    let less : l.left ≡ suc (l.left - 1) = omega (arith, c.loop-left-test.true) in
+    let e = heard says_value c.in-Refused.is (c.shape_value.ensures ∙ ap (λ x. shape_at x a.src.now l.at) c.shape_of.ensures) in
     sym (passed_bad a.code a.src.now (l.left - 1) l.at _ e) ∙ ap (λ k. passed_at a.code k a.src.now l.at) (sym less) ∙ l.invariant
 
-loop-again : tie.Need-loop-preserved invariant-loop decreases-loop
+loop-again : tie.Need-loop-left-preserved invariant-loop decreases-loop
 loop-again c =
-    let a = c.before.before.before.before.before.before.before.before.args in
-    let l = c.before.before.before.before.before.before.loop in
-    let less : l.left ≡ suc (l.left - 1) = omega (arith, c.before.before.before.before.before.loop-test.true) in
-    let e = heard says_value c.before.next.given.1 (c.before.before.before.shape-value.ensures ∙ ap (λ x. shape_at x a.src.now l.at) c.before.before.before.before.shape_of.ensures) in
+    let a = c.args in
+    let l = c.loop-left in
+    let less : l.left ≡ suc (l.left - 1) = omega (arith, c.loop-left-test.true) in
+    let e = heard says_value c.in-Got.is (c.shape_value.ensures ∙ ap (λ x. shape_at x a.src.now l.at) c.shape_of.ensures) in
     sym (passed_more a.code a.src.now (l.left - 1) l.at _ _ e) ∙ ap (λ k. passed_at a.code k a.src.now l.at) (sym less) ∙ l.invariant
 
-returns-2 : tie.Need-returns-2 invariant-loop decreases-loop
+returns-2 : tie.Need-returns invariant-loop decreases-loop
 returns-2 c =
-    let a = c.before.before.before.args in
-    let l = c.before.loop in
-    let none : l.left ≡ 0 = omega (arith, c.loop-test.false) in
+    let a = c.args in
+    let l = c.loop-left in
+    let none : l.left ≡ 0 = omega (arith, c.loop-left-test.false) in
     sym (passed_none a.code a.src.now l.at) ∙ ap (λ k. passed_at a.code k a.src.now l.at) (sym none) ∙ l.invariant
 
-pub past-each-spec : {M : Type 1} → statement M
-past-each-spec =
+pub past_each_spec : {M : Type 1} → statement M
+past_each_spec =
     tie.close
     (tie.spec
     invariant-loop

@@ -7,20 +7,20 @@ use borrow.Author.Rules.{rules}
 use Rattle.wire.proofs.past.past_values.Statement.{statement}
 use Rattle.wire.proofs.past.past_values.Tie as tie
 
-returns-2 : tie.Need-returns-2
+returns-2 : tie.Need-returns-in-One
 returns-2 c =
-    let a = c.before.before.before.before.before.before.before.before.args in
-    let w = c.before.width_of_lem.ensures in
-    let is = heard says_shape c.before.before.before.k.given.1 c.before.before.before.before.before.shape_of.ensures in
-    rw w.0 at c.past-numbers.ensures ∙ passed_numbers a.code a.src.now (says_kind c.before.before.before.k.given.0.0) is (rw w.0 at w.2) a.n a.first
+    let a = c.args in
+    let w = c.width_of.ensures in
+    let is = heard says_shape c.in-One.is c.shape_of.ensures in
+    rw w.0 at c.past_numbers.ensures ∙ passed_numbers a.code a.src.now (says_kind c.in-One.k) is (rw w.0 at w.2) a.n a.first
 
-returns-5 : tie.Need-returns-5
+returns-5 : tie.Need-returns-in-Undef
 returns-5 c =
-    let a = c.before.before.before.before.before.args in
-    sym (passed_undef a.code a.src.now (heard says_shape c.enum-told3.given.1 c.before.before.shape_of.ensures) a.n a.first)
+    let a = c.args in
+    sym (passed_undef a.code a.src.now (heard says_shape c.in-Undef.is c.shape_of.ensures) a.n a.first)
 
-pub past-values-spec : {M : Type 1} → statement M
-past-values-spec =
+pub past_values_spec : {M : Type 1} → statement M
+past_values_spec =
     tie.close
     (tie.spec
     (λ c κs. search rules)

@@ -10,18 +10,18 @@ use Rattle.wire.proofs.row.measure_numbers.Tie as tie
 
 whole-requires : tie.Need-whole-requires
 whole-requires c κs =
-    let a = c.before.before.before.before.before.args in
-    let h = span_within _ (a.n * a.w) a.src.now a.at _ (heard says_span c.before.next.given.1 c.before.before.before.past-numbers.ensures) in
+    let a = c.args in
+    let h = span_within _ (a.n * a.w) a.src.now a.at _ (heard says_span c.in-Till.is c.past_numbers.ensures) in
     omega arith
 
-returns : tie.Need-returns
-returns c = c.whole.ensures ∙ follow _ (heard says_span c.before.before.next.given.1 c.before.before.before.before.past-numbers.ensures) refl
+returns : tie.Need-returns-in-Till
+returns c = c.whole.ensures ∙ follow _ (heard says_span c.in-Till.is c.past_numbers.ensures) refl
 
-returns-2 : tie.Need-returns-2
-returns-2 c = stop _ (heard says_span c.before.f.given.1 c.before.before.before.past-numbers.ensures)
+returns-2 : tie.Need-returns-in-Refused
+returns-2 c = stop _ (heard says_span c.in-Refused.is c.past_numbers.ensures)
 
-pub measure-numbers-spec : {M : Type 1} → statement M
-measure-numbers-spec =
+pub measure_numbers_spec : {M : Type 1} → statement M
+measure_numbers_spec =
     tie.close
     (tie.spec
     (λ c κs. search rules)

@@ -8,21 +8,21 @@ use borrow.Author.Rules.{rules}
 use Rattle.wire.proofs.row.measure_values.Statement.{statement}
 use Rattle.wire.proofs.row.measure_values.Tie as tie
 
-returns-2 : tie.Need-returns-2
+returns-2 : tie.Need-returns-in-One
 returns-2 c =
-    let a = c.before.before.before.before.before.before.before.before.args in
-    let w = c.before.width_of_lem.ensures in
-    let is = heard says_shape c.before.before.before.k.given.1 c.before.before.before.before.before.shape_of.ensures in
-    let all = bytes_of a.src.now (λ i. (c.before.before.before.before.before.before.before.shared-slice-known.given i).fits) in
-    rw w.0 at c.measure-numbers.ensures ∙ number_values a.code a.n a.src.now a.first all (says_kind c.before.before.before.k.given.0.0) is (rw w.0 at w.2)
+    let a = c.args in
+    let w = c.width_of.ensures in
+    let is = heard says_shape c.in-One.is c.shape_of.ensures in
+    let all = bytes_of a.src.now (λ i. (c.shared_slice_known-1.given i).fits) in
+    rw w.0 at c.measure_numbers.ensures ∙ number_values a.code a.n a.src.now a.first all (says_kind c.in-One.k) is (rw w.0 at w.2)
 
-returns-5 : tie.Need-returns-5
+returns-5 : tie.Need-returns-in-Undef
 returns-5 c =
-    let a = c.before.before.before.before.before.args in
-    undef_values a.code a.n a.src.now a.first (heard says_shape c.enum-told3.given.1 c.before.before.shape_of.ensures)
+    let a = c.args in
+    undef_values a.code a.n a.src.now a.first (heard says_shape c.in-Undef.is c.shape_of.ensures)
 
-pub measure-values-spec : {M : Type 1} → statement M
-measure-values-spec =
+pub measure_values_spec : {M : Type 1} → statement M
+measure_values_spec =
     tie.close
     (tie.spec
     (λ c κs. search rules)

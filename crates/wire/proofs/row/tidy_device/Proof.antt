@@ -7,13 +7,12 @@ use Rattle.wire.proofs.row.tidy_device.Tie as tie
 returns : tie.Need-returns
 unfolding row_word
 returns c =
-    c.before.before.tidy-row.ensures
+    c.tidy_row.ensures
 
-pub tidy-device-spec : {M : Type 1} → statement M
-tidy-device-spec =
+pub tidy_device_spec : {M : Type 1} → statement M
+tidy_device_spec =
     tie.close
     (tie.spec
-    (λ c. search rules)
     (λ c κs. search rules)
     (λ c. search rules)
     returns)

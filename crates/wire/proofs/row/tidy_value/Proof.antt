@@ -6,11 +6,11 @@ use Rattle.wire.proofs.row.tidy_value.Tie as tie
 
 returns : tie.Need-returns
 returns c =
-    let a = c.before.before.before.before.before.before.before.args in
-    rw (← row_single a.code a.src.now) c.before.before.tidy-row.ensures
+    let a = c.args in
+    rw (← row_single a.code a.src.now) c.tidy_row.ensures
 
-pub tidy-value-spec : {M : Type 1} → statement M
-tidy-value-spec =
+pub tidy_value_spec : {M : Type 1} → statement M
+tidy_value_spec =
     tie.close
     (tie.spec
     (λ c. search rules)

@@ -7,18 +7,18 @@ use borrow.Author.Rules.{rules}
 use Rattle.wire.proofs.row.type_at.Statement.{statement}
 use Rattle.wire.proofs.row.type_at.Tie as tie
 
-returns-3 : tie.Need-returns-3
+returns-3 : tie.Need-returns
 returns-3 c =
-    let none = get_or-eq_default c.before.before.args.codes.now 0 {n = 0} (omega arith) in
-    simp (le-ltb _ _ c.before.if1.false) (sym none)
+    let none = get_or-eq_default c.args.codes.now 0 {n = 0} (omega arith) in
+    simp (le-ltb _ _ c.if-i-codes.false) (sym none)
 
-pub type-at-spec : {M : Type 1} → statement M
-type-at-spec =
+pub type_at_spec : {M : Type 1} → statement M
+type_at_spec =
     tie.close
     (tie.spec
     (λ c. search rules)
     (λ c. search rules)
-    (λ c. simp (lt-ltb _ _ c.before.if1.true))
+    (λ c. simp (lt-ltb _ _ c.if-i-codes.true))
     (λ c. search rules)
-    (λ c. simp (le-ltb _ _ c.before.before.if1.false))
+    (λ c. simp (le-ltb _ _ c.if-i-codes.false))
     returns-3)

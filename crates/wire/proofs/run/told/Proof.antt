@@ -6,13 +6,13 @@ use borrow.Author.Rules.{rules}
 use Rattle.wire.proofs.run.told.Statement.{statement}
 use Rattle.wire.proofs.run.told.Tie as tie
 
-pub told-spec : {M : Type 1} → statement M
-told-spec =
+pub told_spec : {M : Type 1} → statement M
+told_spec =
     tie.close
     (tie.spec
     (λ c. search rules)
     (λ c κs. search rules)
     (λ c. search rules)
     (λ c κs. search rules)
-    (λ c. went _ _ _ c.going.ensures ∙ ap says_part (sym c.before.before.r.given.1))
-    (λ c. halted _ _ _ c.stopped.ensures ∙ ap says_part (sym c.before.before.r2.given.1)))
+    (λ c. went _ _ _ c.going.ensures ∙ ap says_part (sym c.in-Got.is))
+    (λ c. halted _ _ _ c.stopped.ensures ∙ ap says_part (sym c.in-Refused.is)))

@@ -5,11 +5,11 @@ use borrow.Author.Rules.{rules}
 use Rattle.wire.proofs.text.clash.Statement.{statement}
 use Rattle.wire.proofs.text.clash.Tie as tie
 
-returns : tie.Need-returns
-returns c = (rw (sym c.before.follows.ensures ∙ c.if1.true), omega arith)
+returns : tie.Need-returns-then-follows
+returns c = (rw (sym c.follows.ensures ∙ c.if-follows.true), omega arith)
 
-returns-2 : tie.Need-returns-2
-returns-2 c = (rw (sym c.before.follows.ensures ∙ c.if1.false), omega arith)
+returns-2 : tie.Need-returns-else-follows
+returns-2 c = (rw (sym c.follows.ensures ∙ c.if-follows.false), omega arith)
 
-pub clash-spec : {M : Type 1} → statement M
-clash-spec = tie.close (tie.spec (λ c κs. search rules) returns returns-2)
+pub clash_spec : {M : Type 1} → statement M
+clash_spec = tie.close (tie.spec (λ c κs. search rules) returns returns-2)

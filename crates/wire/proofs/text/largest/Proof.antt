@@ -11,27 +11,27 @@ use Rattle.wire.proofs.Small.{above_none, above_cons}
 use Rattle.wire.proofs.text.largest.Statement.{statement}
 use Rattle.wire.proofs.text.largest.Tie as tie
 
-abbrev invariant-loop : tie.invariant-loop
+abbrev invariant-loop : tie.invariant-loop-left
 invariant-loop s at n most₀ o₀ left₀ most o left =
     ((m : ℕ) → most ≤ m → NoneAbove m (cells 2 left (drop o s)) → NoneAbove m (cells 2 n (drop at s))) × (o + left * 2 ≡ at + n * 2) × (left ≤ n)
 
-abbrev decreases-loop : tie.decreases-loop
+abbrev decreases-loop : tie.decreases-loop-left
 decreases-loop s at n most₀ o₀ left₀ most o left = left
 
-loop-again : tie.Need-loop-preserved invariant-loop decreases-loop
+loop-again : tie.Need-loop-left-preserved invariant-loop decreases-loop
 loop-again c =
-    let l = c.before.before.before.before.before in
-    let s = l.before.before.args.s.now in
-    let more = above_cons s l.loop.o l.loop.left (omega arith) (omega arith) in
-    (λ m h rest. l.loop.invariant.0 m (omega (arith, c.larger.ensures.0)) (more m (omega (arith, c.larger.ensures.1, c.before.unit-of.ensures)) rest), omega arith, omega arith)
+    let l = c in
+    let s = l.args.s.now in
+    let more = above_cons s l.loop-left.o l.loop-left.left (omega arith) (omega arith) in
+    (λ m h rest. l.loop-left.invariant.0 m (omega (arith, c.larger-most.ensures.0)) (more m (omega (arith, c.larger-most.ensures.1, c.unit_of.ensures)) rest), omega arith, omega arith)
 
 returns : tie.Need-returns invariant-loop decreases-loop
 returns c =
-    let l = c.before in
-    l.loop.invariant.0 _ (le_refl _) (above_none (drop l.loop.o l.before.before.args.s.now) _ _ c.loop-test.false)
+    let l = c in
+    l.loop-left.invariant.0 _ (le_refl _) (above_none (drop l.loop-left.o l.args.s.now) _ _ c.loop-left-test.false)
 
-pub largest-spec : {M : Type 1} → statement M
-largest-spec =
+pub largest_spec : {M : Type 1} → statement M
+largest_spec =
     tie.close
     (tie.spec
     invariant-loop

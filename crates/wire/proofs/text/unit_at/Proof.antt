@@ -8,8 +8,8 @@ use Rattle.wire.proofs.text.unit_at.Tie as tie
 
 returns : tie.Need-returns
 returns c =
-    let k = c.before.before.before.before in
-    c.unit-of.ensures ∙ sym (unit_is k.args.s.now k.args.at (omega (arith, k.requires)))
+    let k = c in
+    c.unit_of.ensures ∙ sym (unit_is k.args.s.now k.args.at (omega (arith, k.requires)))
 
-pub unit-at-spec : {M : Type 1} → statement M
-unit-at-spec = tie.close (tie.spec (λ c. search rules) (λ c. search rules) (λ c. search rules) (λ c κs. search rules) returns)
+pub unit_at_spec : {M : Type 1} → statement M
+unit_at_spec = tie.close (tie.spec (λ c. search rules) (λ c. search rules) (λ c. search rules) (λ c κs. search rules) returns)

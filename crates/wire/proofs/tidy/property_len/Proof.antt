@@ -8,50 +8,50 @@ use borrow.Author.Rules.{rules}
 use Rattle.wire.proofs.tidy.property_len.Statement.{statement}
 use Rattle.wire.proofs.tidy.property_len.Tie as tie
 
-add-result : tie.Need-overflow-add-result
+add-result : tie.Need-overflow_add-result
 add-result c =
-    let k = c.before.before.before.before in
+    let k = c in
     let w = property-word k.args.src.now (info_from k.args.p) in
     let z = ap length w ∙ parts_size k.args.src.now (info_from k.args.p) in
-    omega (arith, c.enable-len.ensures, c.before.values-len2.ensures.0, c.before.before.values_len.ensures.0, k.requires.1)
+    omega (arith, c.enable_len.ensures, c.values_len-current.ensures.0, c.values_len-default.ensures.0, k.requires.1)
 
-add-result-2 : tie.Need-overflow-add-result-2
+add-result-2 : tie.Need-overflow_add-result-2
 add-result-2 c =
-    let k = c.before.before.before.before in
+    let k = c in
     let w = property-word k.args.src.now (info_from k.args.p) in
     let z = ap length w ∙ parts_size k.args.src.now (info_from k.args.p) in
-    omega (arith, c.enable-len.ensures, c.before.values-len2.ensures.0, c.before.before.values_len.ensures.0, k.requires.1)
+    omega (arith, c.enable_len.ensures, c.values_len-current.ensures.0, c.values_len-default.ensures.0, k.requires.1)
 
-add-result-3 : tie.Need-overflow-add-result-3
+add-result-3 : tie.Need-overflow_add-result-3
 add-result-3 c =
-    let k = c.before.before.before.before in
+    let k = c in
     let w = property-word k.args.src.now (info_from k.args.p) in
     let z = ap length w ∙ parts_size k.args.src.now (info_from k.args.p) in
-    omega (arith, c.enable-len.ensures, c.before.values-len2.ensures.0, c.before.before.values_len.ensures.0, k.requires.1)
+    omega (arith, c.enable_len.ensures, c.values_len-current.ensures.0, c.values_len-default.ensures.0, k.requires.1)
 
-form-len-requires : tie.Need-form-len-requires
+form-len-requires : tie.Need-form_len-requires
 form-len-requires c κs =
-    let k = c.before.before.before.before in
+    let k = c in
     let w = property-word k.args.src.now (info_from k.args.p) in
     let z = ap length w ∙ parts_size k.args.src.now (info_from k.args.p) in
     omega (arith, k.requires.1)
 
-add-result-4 : tie.Need-overflow-add-result-4
+add-result-4 : tie.Need-overflow_add-result-4
 add-result-4 c =
-    let k = c.before.before.before.before.before in
+    let k = c in
     let w = property-word k.args.src.now (info_from k.args.p) in
     let z = ap length w ∙ parts_size k.args.src.now (info_from k.args.p) in
-    omega (arith, c.before.enable-len.ensures, c.before.before.values-len2.ensures.0, c.before.before.before.values_len.ensures.0, c.form-len.ensures, k.requires.1)
+    omega (arith, c.enable_len.ensures, c.values_len-current.ensures.0, c.values_len-default.ensures.0, c.form_len.ensures, k.requires.1)
 
 returns : tie.Need-returns
 returns c =
-    let k = c.before.before.before.before.before in
+    let k = c in
     let w = property-word k.args.src.now (info_from k.args.p) in
     let z = ap length w ∙ parts_size k.args.src.now (info_from k.args.p) in
-    omega (arith, c.before.enable-len.ensures, c.before.before.values-len2.ensures.0, c.before.before.before.values_len.ensures.0, c.form-len.ensures) ∙ sym z
+    omega (arith, c.enable_len.ensures, c.values_len-current.ensures.0, c.values_len-default.ensures.0, c.form_len.ensures) ∙ sym z
 
-pub property-len-spec : {M : Type 1} → statement M
-property-len-spec =
+pub property_len_spec : {M : Type 1} → statement M
+property_len_spec =
     tie.close
     (tie.spec
     (λ c κs. search rules)

@@ -9,16 +9,16 @@ use borrow.Author.Rules.{rules}
 use Rattle.wire.proofs.tidy.put_enable.Statement.{statement}
 use Rattle.wire.proofs.tidy.put_enable.Tie as tie
 
-returns : tie.Need-returns
-returns c = rw c.before.before.before.before.before.e.given.1 c.before.before.store.ensures
+returns : tie.Need-returns-in-There
+returns c = rw c.in-There.is c.store.ensures
 
 none : (out : List ℕ) (o : ℕ) → roomed out o [] ≡ []
 none out o = in_room out o [] (omega arith)
 
-returns-2 : tie.Need-returns-2
-returns-2 c = let a = c.before.before.before.args in rw (c.enum_told.given.1, none a.out.now a.o) nothing
+returns-2 : tie.Need-returns-in-Absent
+returns-2 c = let a = c.args in rw (c.in-Absent.is, none a.out.now a.o) nothing
 
-pub put-enable-spec : {M : Type 1} → statement M
-put-enable-spec =
+pub put_enable_spec : {M : Type 1} → statement M
+put_enable_spec =
     tie.close
     (tie.spec (λ c. search rules) (λ c. search rules) (λ c κs. search rules) (λ c. search rules) (λ c. search rules) returns returns-2)

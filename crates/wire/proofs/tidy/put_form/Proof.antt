@@ -9,34 +9,34 @@ use borrow.Author.Rules.{rules}
 use Rattle.wire.proofs.tidy.put_form.Statement.{statement}
 use Rattle.wire.proofs.tidy.put_form.Tie as tie
 
-put-range-requires : tie.Need-put-range-requires
+put-range-requires : tie.Need-put_range-requires
 unfolding form_word
 put-range-requires c κs =
-    (rw (ap says_form c.before.before.f.given.1) at c.before.before.before.before.before.before.requires.0, rw (ap says_form c.before.before.f.given.1) at c.before.before.before.before.before.before.requires.1)
+    (rw (ap says_form c.in-Range.is) at c.requires.0, rw (ap says_form c.in-Range.is) at c.requires.1)
 
-put-list-requires : tie.Need-put-list-requires
+put-list-requires : tie.Need-put_list-requires
 unfolding form_word
 put-list-requires c κs =
-    (rw (ap says_form c.before.before.f2.given.1) at c.before.before.before.before.before.before.requires.0, rw (ap says_form c.before.before.f2.given.1) at c.before.before.before.before.before.before.requires.1)
+    (rw (ap says_form c.in-List.is) at c.requires.0, rw (ap says_form c.in-List.is) at c.requires.1)
 
-returns : tie.Need-returns
+returns : tie.Need-returns-in-Absent
 unfolding form_word
 returns c =
-    let k = rw (ap says_form c.before.before.before.before.enum_told.given.1) at c.before.before.before.before.before.before.before.before.requires.1 in
-    rw (ap says_form c.before.before.before.before.enum_told.given.1) (roomy (bytes 1 0) c.before.before.store.ensures (omega arith))
+    let k = rw (ap says_form c.in-Absent.is) at c.requires.1 in
+    rw (ap says_form c.in-Absent.is) (roomy (bytes 1 0) c.store.ensures (omega arith))
 
-returns-2 : tie.Need-returns-2
+returns-2 : tie.Need-returns-in-Range
 unfolding form_word
 returns-2 c =
-    rw (ap says_form c.before.before.before.before.before.f.given.1) c.before.before.put-range.ensures
+    rw (ap says_form c.in-Range.is) c.put_range.ensures
 
-returns-3 : tie.Need-returns-3
+returns-3 : tie.Need-returns-in-List
 unfolding form_word
 returns-3 c =
-    rw (ap says_form c.before.before.before.before.before.f2.given.1) c.before.before.put-list.ensures
+    rw (ap says_form c.in-List.is) c.put_list.ensures
 
-pub put-form-spec : {M : Type 1} → statement M
-put-form-spec =
+pub put_form_spec : {M : Type 1} → statement M
+put_form_spec =
     tie.close
     (tie.spec
     (λ c. search rules)

@@ -13,19 +13,19 @@ use Rattle.wire.proofs.tidy.put_header.Tie as tie
 returns : tie.Need-returns
 unfolding header_word bytes
 returns c =
-    let k = c.before.before.before.before.before.before.before.before.before.before.before.before.before.before.before.before.before.before.before.before in
+    let k = c in
     let p = k.args.p in
     let z = header_size (info_from p) in
     then_roomy (enable_write (says_enable p.is_enable))
     (then_roomy (bytes 1 p.get_set)
     (then_roomy (bytes 2 p.data_type)
-    (roomy (bytes 2 p.property_code) c.before.before.before.before.before.before.before.before.before.before.before.before.before.before.before.before.store.ensures (omega (arith, k.requires)))
-    c.before.before.before.before.before.before.before.before.before.before.before.store2.ensures (omega (arith, k.requires)))
-    c.before.before.before.before.before.before.store3.ensures (omega (arith, k.requires)))
-    c.before.before.put-enable.ensures (omega (arith, k.requires))
+    (roomy (bytes 2 p.property_code) c.store-a.ensures (omega (arith, k.requires)))
+    c.store-b.ensures (omega (arith, k.requires)))
+    c.store-c.ensures (omega (arith, k.requires)))
+    c.put_enable.ensures (omega (arith, k.requires))
 
-pub put-header-spec : {M : Type 1} → statement M
-put-header-spec =
+pub put_header_spec : {M : Type 1} → statement M
+put_header_spec =
     tie.close
     (tie.spec
     (λ c. search rules)

@@ -10,23 +10,23 @@ use borrow.Author.Rules.{rules}
 use Rattle.wire.proofs.tidy.put_list.Statement.{statement}
 use Rattle.wire.proofs.tidy.put_list.Tie as tie
 
-put-values-requires : tie.Need-put-values-requires
+put-values-requires : tie.Need-put_values-requires
 put-values-requires c κs =
-    let a = c.before.before.before.before.before.before.before.before.before.before.before.args in
-    let p = c.before.before.before.before.before.before.before.before.before.before.before.requires in
+    let a = c.args in
+    let p = c.requires in
     let z = list_size a.code a.src.now a.at a.n in
-    let q = then_roomy (bytes 2 a.n) (roomy (bytes 1 2) c.before.before.before.before.before.before.before.store.ensures (omega (arith, length_bytes 1 2))) c.before.before.before.store2.ensures (omega (arith, length_bytes 1 2, length_bytes 2 a.n)) in
+    let q = then_roomy (bytes 2 a.n) (roomy (bytes 1 2) c.store-i.ensures (omega (arith, length_bytes 1 2))) c.store-j.ensures (omega (arith, length_bytes 1 2, length_bytes 2 a.n)) in
     (p.0, omega (arith, simp (length-append, length_bytes) at q.place, long q))
 
 returns : tie.Need-returns
 unfolding list_word
 returns c =
-    let a = c.before.before.before.before.before.before.before.before.before.before.before.before.before.before.args in
+    let a = c.args in
     let z = list_size a.code a.src.now a.at a.n in
-    then (then_roomy (bytes 2 a.n) (roomy (bytes 1 2) c.before.before.before.before.before.before.before.before.before.before.store.ensures (omega (arith, length_bytes 1 2))) c.before.before.before.before.before.before.store2.ensures (omega (arith, length_bytes 1 2, length_bytes 2 a.n))) c.before.before.put-values.ensures
+    then (then_roomy (bytes 2 a.n) (roomy (bytes 1 2) c.store-i.ensures (omega (arith, length_bytes 1 2))) c.store-j.ensures (omega (arith, length_bytes 1 2, length_bytes 2 a.n))) c.put_values.ensures
 
-pub put-list-spec : {M : Type 1} → statement M
-put-list-spec =
+pub put_list_spec : {M : Type 1} → statement M
+put_list_spec =
     tie.close
     (tie.spec
     (λ c κs. search rules)

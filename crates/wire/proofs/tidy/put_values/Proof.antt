@@ -9,17 +9,17 @@ use borrow.Author.Rules.{rules}
 use Rattle.wire.proofs.tidy.put_values.Statement.{statement}
 use Rattle.wire.proofs.tidy.put_values.Tie as tie
 
-returns : tie.Need-returns
+returns : tie.Need-returns-then-code-ne-STRING
 returns c =
-    let m = c.before.before.before.before in
-    let b = m.before.before.before.before in
+    let m = c in
+    let b = m in
     let a = b.args in
     let s = a.src.now in
-    let e = values_copied a.code a.n s a.at m.before.if1.true (bytes_of s (λ i. (m.before.before.before.shared-slice-known.given i).fits)) b.requires.0 _ m.values_len.ensures.0 in
-    rw e (roomy _ c.before.before.copy.ensures (omega (arith, ap length e, b.requires.1)))
+    let e = values_copied a.code a.n s a.at m.if-code-ne-STRING.true (bytes_of s (λ i. (m.shared_slice_known-1.given i).fits)) b.requires.0 _ m.values_len.ensures.0 in
+    rw e (roomy _ c.copy.ensures (omega (arith, ap length e, b.requires.1)))
 
-pub put-values-spec : {M : Type 1} → statement M
-put-values-spec =
+pub put_values_spec : {M : Type 1} → statement M
+put_values_spec =
     tie.close
     (tie.spec
     (λ c κs. search rules)

@@ -13,21 +13,21 @@ use borrow.Author.Rules.{rules}
 use Rattle.wire.proofs.tidy.values_len.Statement.{statement}
 use Rattle.wire.proofs.tidy.values_len.Tie as tie
 
-returns : tie.Need-returns
+returns : tie.Need-returns-in-Whole
 returns c =
-    let a = c.before.before.before.before.before.args in
+    let a = c.args in
     let ks = types (a.code ∷ []) a.n in
-    let e = heard says_measured c.before.tidy.given.1 c.before.before.before.measure-values.ensures in
-    ((measured (row_word ks a.src.now a.at) _ _ e).1, row_bound ks a.src.now (bytes_of a.src.now (λ i. (c.before.before.before.before.shared-slice-known.given i).fits)) a.at _ _ e)
+    let e = heard says_measured c.in-Whole.is c.measure_values.ensures in
+    ((measured (row_word ks a.src.now a.at) _ _ e).1, row_bound ks a.src.now (bytes_of a.src.now (λ i. (c.shared_slice_known-1.given i).fits)) a.at _ _ e)
 
-returns-2 : tie.Need-returns-2
+returns-2 : tie.Need-returns-in-Refused
 returns-2 c =
-    let a = c.before.before.before.before.args in
-    let e = heard says_measured c.enum_told.given.1 c.before.before.measure-values.ensures in
+    let a = c.args in
+    let e = heard says_measured c.in-Refused.is c.measure_values.ensures in
     (sym (ap (λ w. length (spelling w)) (unmeasured (row_word (types (a.code ∷ []) a.n) a.src.now a.at) _ e)), omega arith)
 
-pub values-len-spec : {M : Type 1} → statement M
-values-len-spec =
+pub values_len_spec : {M : Type 1} → statement M
+values_len_spec =
     tie.close
     (tie.spec
     (λ c κs. search rules)

@@ -15,29 +15,29 @@ use Rattle.wire.proofs.laws.Points.{utf8_few}
 use Rattle.wire.proofs.utf8.has_room.Statement.{statement}
 use Rattle.wire.proofs.utf8.has_room.Tie as tie
 
-returns : tie.Need-returns
+returns : tie.Need-returns-in-Till
 returns c =
-    let a = c.before.before.before.before.before.args in
+    let a = c.args in
     let units = cells 2 a.count (drop a.start a.s.now) in
-    let room = span_within a.o _ a.out.now a.o _ (heard says_span c.enum_told.given.1 c.before.before.span-at.ensures) in
+    let room = span_within a.o _ a.out.now a.o _ (heard says_span c.in-Till.is c.span_at.ensures) in
     sym (le-leb (length (utf8 units)) (length a.out.now - a.o) (omega (arith, room.0, utf8_few units, length_cells 2 a.count (drop a.start a.s.now))))
 
-returns-2 : tie.Need-returns-2
+returns-2 : tie.Need-returns-in-Till-span_at
 returns-2 c =
-    let a = c.before.before.before.before.before.before.before.before.before.args in
+    let a = c.args in
     let units = cells 2 a.count (drop a.start a.s.now) in
-    let room = span_within a.o _ a.out.now a.o _ (heard says_span c.enum-told3.given.1 c.before.before.span-at2.ensures) in
-    sym (le-leb (length (utf8 units)) (length a.out.now - a.o) (omega (arith, room.0, c.before.before.before.units-len.ensures)))
+    let room = span_within a.o _ a.out.now a.o _ (heard says_span c.in-Till-span_at.is c.span_at-2.ensures) in
+    sym (le-leb (length (utf8 units)) (length a.out.now - a.o) (omega (arith, room.0, c.units_len.ensures)))
 
-returns-3 : tie.Need-returns-3
+returns-3 : tie.Need-returns
 returns-3 c =
-    let a = c.before.before.before.before.before.before.before.before.before.args in
+    let a = c.args in
     let units = cells 2 a.count (drop a.start a.s.now) in
-    let over = span_over a.o _ a.out.now a.o _ (heard says_span c.enum-told4.given.1 c.before.before.span-at2.ensures) in
-    sym (lt-leb (length (utf8 units)) (length a.out.now - a.o) (omega (arith, over, c.before.before.before.units-len.ensures)))
+    let over = span_over a.o _ a.out.now a.o _ (heard says_span c.in_default-span_at.is c.span_at-2.ensures) in
+    sym (lt-leb (length (utf8 units)) (length a.out.now - a.o) (omega (arith, over, c.units_len.ensures)))
 
-pub has-room-spec : {M : Type 1} → statement M
-has-room-spec =
+pub has_room_spec : {M : Type 1} → statement M
+has_room_spec =
     tie.close
     (tie.spec
     (λ c. search rules)

@@ -11,23 +11,22 @@ use borrow.Author.Rules.{rules}
 use Rattle.wire.proofs.value.int_value.Statement.{statement}
 use Rattle.wire.proofs.value.int_value.Tie as tie
 
-returns : tie.Need-returns
+returns : tie.Need-returns-in-Got
 unfolding shape_at
 returns c =
-    let a = c.before.before.before.before.before.args in
-    let v = c.before.v in
-    let small = subst (Signs a.w) v.given.1 c.before.before.before.Int-at.ensures.small in
-    let same = signed_wide a.half small.0 v.given.0.0 (rw c.before.before.before.before.before.requires.2 small.1) (rw c.before.before.before.before.before.requires.2 small.2) c.before.before.before.before.before.requires.1 in
-    ap (λ z. got (number_is (int z)) v.given.0.1.0.at) same ∙ meant (λ z. number_is (int z)) (heard says_i64 v.given.1 c.before.before.before.Int-at.ensures.says) ∙ means_means _ _ (num_at a.w a.s.now a.at)
+    let a = c.args in
+    let small = subst (Signs a.w) c.in-Got.is c.int_at.ensures.small in
+    let same = signed_wide a.half small.0 c.in-Got.v (rw c.requires.2 small.1) (rw c.requires.2 small.2) c.requires.1 in
+    ap (λ z. got (number_is (int z)) c.in-Got.next.at) same ∙ meant (λ z. number_is (int z)) (heard says_i64 c.in-Got.is c.int_at.ensures.says) ∙ means_means _ _ (num_at a.w a.s.now a.at)
 
-returns-2 : tie.Need-returns-2
+returns-2 : tie.Need-returns-in-Refused
 unfolding shape_at
 returns-2 c =
-    let a = c.before.before.before.before.before.args in
-    not_meant (λ z. number_is (int z)) (heard says_i64 c.before.f.given.1 c.before.before.before.Int-at.ensures.says) ∙ means_means _ _ (num_at a.w a.s.now a.at)
+    let a = c.args in
+    not_meant (λ z. number_is (int z)) (heard says_i64 c.in-Refused.is c.int_at.ensures.says) ∙ means_means _ _ (num_at a.w a.s.now a.at)
 
-pub int-value-spec : {M : Type 1} → statement M
-int-value-spec =
+pub int_value_spec : {M : Type 1} → statement M
+int_value_spec =
     tie.close
     (tie.spec
     (λ c κs. search rules)

@@ -7,18 +7,18 @@ use borrow.Author.Rules.{rules}
 use Rattle.wire.proofs.value.nat_value.Statement.{statement}
 use Rattle.wire.proofs.value.nat_value.Tie as tie
 
-returns : tie.Need-returns
+returns : tie.Need-returns-in-Got
 unfolding shape_at
 returns c =
-    meant (λ n. number_is (nat n)) (heard says_number c.before.v.given.1 c.before.before.before.num-at.ensures.says)
+    meant (λ n. number_is (nat n)) (heard says_number c.in-Got.is c.num_at.ensures.says)
 
-returns-2 : tie.Need-returns-2
+returns-2 : tie.Need-returns-in-Refused
 unfolding shape_at
 returns-2 c =
-    not_meant (λ n. number_is (nat n)) (heard says_number c.before.f.given.1 c.before.before.before.num-at.ensures.says)
+    not_meant (λ n. number_is (nat n)) (heard says_number c.in-Refused.is c.num_at.ensures.says)
 
-pub nat-value-spec : {M : Type 1} → statement M
-nat-value-spec =
+pub nat_value_spec : {M : Type 1} → statement M
+nat_value_spec =
     tie.close
     (tie.spec
     (λ c κs. search rules)

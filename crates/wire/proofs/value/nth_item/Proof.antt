@@ -13,42 +13,38 @@ use borrow.Author.Rules.{rules}
 use Rattle.wire.proofs.value.nth_item.Statement.{statement}
 use Rattle.wire.proofs.value.nth_item.Tie as tie
 
-mul-number-value : tie.Need-overflow-mul-number-value
+mul-number-value : tie.Need-overflow_mul-n
 mul-number-value c =
-    let a = c.before.before.before.before.before.before.before.args in
-    let p = c.before.before.p in
-    let h = array_ranged c.before.before.before.before.before.width_of_lem.result a.s.now a.at p.given.0.0 _ (heard says_part p.given.1 c.before.before.before.before.Array-at.ensures) in
-    let k : a.n * c.before.before.before.before.before.width_of_lem.result ≤ p.given.0.0.count * c.before.before.before.before.before.width_of_lem.result = mul-le-mul_right c.before.before.before.before.before.width_of_lem.result (le_of_lt c.if1.true) in
+    let a = c.args in
+    let h = array_ranged c.width_of-w.result a.s.now a.at c.in-Got.p _ (heard says_part c.in-Got.is c.array_at.ensures) in
+    let k : a.n * c.width_of-w.result ≤ c.in-Got.p.count * c.width_of-w.result = mul-le-mul_right c.width_of-w.result (le_of_lt c.if-n-count.true) in
     omega arith
 
-add-number-value : tie.Need-overflow-add-number-value
+add-number-value : tie.Need-overflow_add-start
 add-number-value c =
-    let a = c.before.before.before.before.before.before.before.args in
-    let p = c.before.before.p in
-    let h = array_ranged c.before.before.before.before.before.width_of_lem.result a.s.now a.at p.given.0.0 _ (heard says_part p.given.1 c.before.before.before.before.Array-at.ensures) in
-    let k : a.n * c.before.before.before.before.before.width_of_lem.result ≤ p.given.0.0.count * c.before.before.before.before.before.width_of_lem.result = mul-le-mul_right c.before.before.before.before.before.width_of_lem.result (le_of_lt c.if1.true) in
+    let a = c.args in
+    let h = array_ranged c.width_of-w.result a.s.now a.at c.in-Got.p _ (heard says_part c.in-Got.is c.array_at.ensures) in
+    let k : a.n * c.width_of-w.result ≤ c.in-Got.p.count * c.width_of-w.result = mul-le-mul_right c.width_of-w.result (le_of_lt c.if-n-count.true) in
     omega arith
 
-returns : tie.Need-returns
+returns : tie.Need-returns-then-n-count
 unfolding item_of
 returns c =
-    let p = c.before.before.before.p in
-    let w = c.before.before.before.before.before.before.width_of_lem.ensures.0 in
-    follow _ (rw w at (heard says_part p.given.1 c.before.before.before.before.before.Array-at.ensures)) (simp (lt-ltb _ _ c.before.if1.true, ← w) c.number-value.ensures)
+    let w = c.width_of-w.ensures.0 in
+    follow _ (rw w at (heard says_part c.in-Got.is c.array_at.ensures)) (simp (lt-ltb _ _ c.if-n-count.true, ← w) c.number_value.ensures)
 
-returns-2 : tie.Need-returns-2
+returns-2 : tie.Need-returns-else-n-count
 unfolding item_of
 returns-2 c =
-    let p = c.before.before.before.p in
-    follow _ (rw c.before.before.before.before.before.before.width_of_lem.ensures.0 at (heard says_part p.given.1 c.before.before.before.before.before.Array-at.ensures)) (simp (le-ltb _ _ c.before.if1.false) (ap refused c.plain.ensures))
+    follow _ (rw c.width_of-w.ensures.0 at (heard says_part c.in-Got.is c.array_at.ensures)) (simp (le-ltb _ _ c.if-n-count.false) (ap refused c.plain.ensures))
 
-returns-3 : tie.Need-returns-3
+returns-3 : tie.Need-returns-in-Refused
 unfolding item_of
 returns-3 c =
-    stop _ (rw c.before.before.before.before.width_of_lem.ensures.0 at (heard says_part c.before.f.given.1 c.before.before.before.Array-at.ensures))
+    stop _ (rw c.width_of-w.ensures.0 at (heard says_part c.in-Refused.is c.array_at.ensures))
 
-pub nth-item-spec : {M : Type 1} → statement M
-nth-item-spec =
+pub nth_item_spec : {M : Type 1} → statement M
+nth_item_spec =
     tie.close
     (tie.spec
     (λ c κs. search rules)

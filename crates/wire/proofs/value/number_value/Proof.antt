@@ -7,8 +7,8 @@ use borrow.Author.Rules.{rules}
 use Rattle.wire.proofs.value.number_value.Statement.{statement}
 use Rattle.wire.proofs.value.number_value.Tie as tie
 
-pub number-value-spec : {M : Type 1} → statement M
-number-value-spec =
+pub number_value_spec : {M : Type 1} → statement M
+number_value_spec =
     tie.close
     (tie.spec
     (λ c. search rules)
@@ -31,13 +31,13 @@ number-value-spec =
     (λ c κs. search rules)
     (λ c. search rules)
     (λ c κs. search rules)
-    (λ c. c.int-value.ensures ∙ ap (λ k. shape_at (one (says_kind k)) c.before.before.before.before.args.s.now c.before.before.before.before.args.at) (sym c.before.enum_told.given.1))
-    (λ c. c.nat-value.ensures ∙ ap (λ k. shape_at (one (says_kind k)) c.before.before.before.before.args.s.now c.before.before.before.before.args.at) (sym c.before.enum-told2.given.1))
-    (λ c. c.int-value2.ensures ∙ ap (λ k. shape_at (one (says_kind k)) c.before.before.before.before.args.s.now c.before.before.before.before.args.at) (sym c.before.enum-told3.given.1))
-    (λ c. c.nat-value2.ensures ∙ ap (λ k. shape_at (one (says_kind k)) c.before.before.before.before.args.s.now c.before.before.before.before.args.at) (sym c.before.enum-told4.given.1))
-    (λ c. c.int-value3.ensures ∙ ap (λ k. shape_at (one (says_kind k)) c.before.before.before.before.args.s.now c.before.before.before.before.args.at) (sym c.before.enum-told5.given.1))
-    (λ c. c.nat-value3.ensures ∙ ap (λ k. shape_at (one (says_kind k)) c.before.before.before.before.args.s.now c.before.before.before.before.args.at) (sym c.before.enum-told6.given.1))
-    (λ c. c.int-value4.ensures ∙ ap (λ k. shape_at (one (says_kind k)) c.before.before.before.before.args.s.now c.before.before.before.before.args.at) (sym c.before.enum-told7.given.1))
-    (λ c. c.nat-value4.ensures ∙ ap (λ k. shape_at (one (says_kind k)) c.before.before.before.before.args.s.now c.before.before.before.before.args.at) (sym c.before.enum-told8.given.1))
-    (λ c. c.wide_value.ensures ∙ ap (λ k. shape_at (one (says_kind k)) c.before.before.before.before.args.s.now c.before.before.before.before.args.at) (sym c.before.enum-told9.given.1))
-    (λ c. c.wide-value2.ensures ∙ ap (λ k. shape_at (one (says_kind k)) c.before.before.before.before.args.s.now c.before.before.before.before.args.at) (sym c.before.enum-told10.given.1)))
+    (λ c. c.int_value.ensures ∙ ap (λ k. shape_at (one (says_kind k)) c.args.s.now c.args.at) (sym c.in-I8.is))
+    (λ c. c.nat_value.ensures ∙ ap (λ k. shape_at (one (says_kind k)) c.args.s.now c.args.at) (sym c.in-U8.is))
+    (λ c. c.int_value-in-I16.ensures ∙ ap (λ k. shape_at (one (says_kind k)) c.args.s.now c.args.at) (sym c.in-I16.is))
+    (λ c. c.nat_value-in-U16.ensures ∙ ap (λ k. shape_at (one (says_kind k)) c.args.s.now c.args.at) (sym c.in-U16.is))
+    (λ c. c.int_value-in-I32.ensures ∙ ap (λ k. shape_at (one (says_kind k)) c.args.s.now c.args.at) (sym c.in-I32.is))
+    (λ c. c.nat_value-in-U32.ensures ∙ ap (λ k. shape_at (one (says_kind k)) c.args.s.now c.args.at) (sym c.in-U32.is))
+    (λ c. c.int_value-in-I64.ensures ∙ ap (λ k. shape_at (one (says_kind k)) c.args.s.now c.args.at) (sym c.in-I64.is))
+    (λ c. c.nat_value-in-U64.ensures ∙ ap (λ k. shape_at (one (says_kind k)) c.args.s.now c.args.at) (sym c.in-U64.is))
+    (λ c. c.wide_value.ensures ∙ ap (λ k. shape_at (one (says_kind k)) c.args.s.now c.args.at) (sym c.in-I128.is))
+    (λ c. c.wide_value-in-U128.ensures ∙ ap (λ k. shape_at (one (says_kind k)) c.args.s.now c.args.at) (sym c.in-U128.is)))

@@ -7,24 +7,24 @@ use Rattle.wire.specs.Says.{says_value, says_span}
 use Rattle.wire.proofs.value.whole_value.Statement.{statement}
 use Rattle.wire.proofs.value.whole_value.Tie as tie
 
-returns : tie.Need-returns
+returns : tie.Need-returns-in-Till
 unfolding filling_all
 returns c =
-    let x = c.before.before.before.before.before in
-    follow _ (heard says_value x.v.given.1 x.before.before.value.ensures) (follow _ (heard says_span c.before.end2.given.1 c.before.before.before.end.ensures) refl)
+    let x = c in
+    follow _ (heard says_value x.in-Got.is x.value.ensures) (follow _ (heard says_span c.in-Till.is c.end.ensures) refl)
 
-returns-2 : tie.Need-returns-2
+returns-2 : tie.Need-returns-in-Refused-end
 unfolding filling_all
 returns-2 c =
-    let x = c.before.before.before.before.before in
-    follow _ (heard says_value x.v.given.1 x.before.before.value.ensures) (stop _ (heard says_span c.before.f.given.1 c.before.before.before.end.ensures))
+    let x = c in
+    follow _ (heard says_value x.in-Got.is x.value.ensures) (stop _ (heard says_span c.in-Refused-end.is c.end.ensures))
 
-returns-3 : tie.Need-returns-3
+returns-3 : tie.Need-returns-in-Refused
 unfolding filling_all
-returns-3 c = stop _ (heard says_value c.before.f2.given.1 c.before.before.before.value.ensures)
+returns-3 c = stop _ (heard says_value c.in-Refused.is c.value.ensures)
 
-pub whole-value-spec : {M : Type 1} → statement M
-whole-value-spec =
+pub whole_value_spec : {M : Type 1} → statement M
+whole_value_spec =
     tie.close
     (tie.spec
     (λ c κs. search rules)

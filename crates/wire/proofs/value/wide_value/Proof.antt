@@ -7,20 +7,20 @@ use borrow.Author.Rules.{rules}
 use Rattle.wire.proofs.value.wide_value.Statement.{statement}
 use Rattle.wire.proofs.value.wide_value.Tie as tie
 
-returns : tie.Need-returns
+returns : tie.Need-returns-in-Got
 unfolding shape_at
 returns c =
-    let a = c.before.before.before.before.before.args in
-    meant number_is (heard says_pair c.before.p.given.1 c.before.before.before.wide_at.ensures) ∙ means_means _ _ (num_at 16 a.s.now a.at)
+    let a = c.args in
+    meant number_is (heard says_pair c.in-Got.is c.wide_at.ensures) ∙ means_means _ _ (num_at 16 a.s.now a.at)
 
-returns-2 : tie.Need-returns-2
+returns-2 : tie.Need-returns-in-Refused
 unfolding shape_at
 returns-2 c =
-    let a = c.before.before.before.before.before.args in
-    not_meant number_is (heard says_pair c.before.f.given.1 c.before.before.before.wide_at.ensures) ∙ means_means _ _ (num_at 16 a.s.now a.at)
+    let a = c.args in
+    not_meant number_is (heard says_pair c.in-Refused.is c.wide_at.ensures) ∙ means_means _ _ (num_at 16 a.s.now a.at)
 
-pub wide-value-spec : {M : Type 1} → statement M
-wide-value-spec =
+pub wide_value_spec : {M : Type 1} → statement M
+wide_value_spec =
     tie.close
     (tie.spec
     (λ c κs. search rules)

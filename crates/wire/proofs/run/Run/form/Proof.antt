@@ -6,26 +6,26 @@ use borrow.Author.Rules.{rules}
 use Rattle.wire.proofs.run.Run.form.Statement.{statement}
 use Rattle.wire.proofs.run.Run.form.Tie as tie
 
-returns : tie.Need-returns
+returns : tie.Need-returns-then-b-eq1
 unfolding form_at
 returns c =
-    link _ _ _ _ _ c.before.before.before.number.ensures.says
-    (simp (eq-eqb _ _ c.before.if1.true) c.range.ensures)
+    link _ _ _ _ _ c.number-b.ensures.says
+    (simp (eq-eqb _ _ c.if-b-eq1.true) c.range.ensures)
 
-returns-2 : tie.Need-returns-2
+returns-2 : tie.Need-returns-then-b-eq2
 unfolding form_at
 returns-2 c =
-    link _ _ _ _ _ c.before.before.before.before.before.number.ensures.says
-    (simp (ne_eqb _ _ c.before.before.before.if1.false, eq-eqb _ _ c.before.if2.true) c.list.ensures)
+    link _ _ _ _ _ c.number-b.ensures.says
+    (simp (ne_eqb _ _ c.if-b-eq1.false, eq-eqb _ _ c.if-b-eq2.true) c.list.ensures)
 
-returns-3 : tie.Need-returns-3
+returns-3 : tie.Need-returns
 unfolding form_at
 returns-3 c =
-    link _ _ _ _ _ c.before.before.before.before.before.number.ensures.says
-    (simp (ne_eqb _ _ c.before.before.before.if1.false, ne_eqb _ _ c.before.if2.false) (kept _ _))
+    link _ _ _ _ _ c.number-b.ensures.says
+    (simp (ne_eqb _ _ c.if-b-eq1.false, ne_eqb _ _ c.if-b-eq2.false) (kept _ _))
 
-pub form-spec : {M : Type 1} → statement M
-form-spec =
+pub form_spec : {M : Type 1} → statement M
+form_spec =
     tie.close
     (tie.spec
     (λ c κs. search rules)

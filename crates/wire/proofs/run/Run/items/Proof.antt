@@ -6,12 +6,12 @@ use borrow.Author.Rules.{rules}
 use Rattle.wire.proofs.run.Run.items.Statement.{statement}
 use Rattle.wire.proofs.run.Run.items.Tie as tie
 
-pub items-spec : {M : Type 1} → statement M
-items-spec =
+pub items_spec : {M : Type 1} → statement M
+items_spec =
     tie.close
     (tie.spec
     (λ c κs. search rules)
     (λ c κs. search rules)
     (λ c κs. search rules)
-    (λ c. follow _ (ran_ok _ tt c.before.before.before.if1.true) (c.told.ensures ∙ c.before.Array-at.ensures))
-    (λ c. rw c.passed.ensures (passed _ _ _ c.before.if1.false)))
+    (λ c. follow _ (ran_ok _ tt c.if-self.true) (c.told.ensures ∙ c.array_at.ensures))
+    (λ c. rw c.passed.ensures (passed _ _ _ c.if-self.false)))

@@ -8,16 +8,16 @@ use Rattle.wire.proofs.run.Run.list.Tie as tie
 returns : tie.Need-returns
 unfolding list_at
 returns c =
-    link _ _ _ _ _ c.before.before.before.before.number.ensures.says
-    (link _ _ _ _ _ c.before.before.values.ensures
+    link _ _ _ _ _ c.number-count.ensures.says
+    (link _ _ _ _ _ c.values-all.ensures
     (kept _ _))
 
-pub list-spec : {M : Type 1} → statement M
-list-spec =
+pub list_spec : {M : Type 1} → statement M
+list_spec =
     tie.close
     (tie.spec
     (λ c κs. search rules)
-    (λ c. record { fits = c.before.number.ensures.small })
+    (λ c. record { fits = c.number-count.ensures.small })
     (λ c. search rules)
     (λ c κs. search rules)
     returns)

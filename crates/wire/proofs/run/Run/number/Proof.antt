@@ -9,27 +9,27 @@ use borrow.Author.Rules.{rules}
 use Rattle.wire.proofs.run.Run.number.Statement.{statement}
 use Rattle.wire.proofs.run.Run.number.Tie as tie
 
-returns : tie.Need-returns
+returns : tie.Need-returns-in-Got
 returns c =
-    let n = c.before.before.before.before.num-at.ensures in
+    let n = c.num_at.ensures in
     record {
-      says = read _ _ _ _ _ c.before.before.before.before.before.before.if1.true c.going.ensures (heard says_number c.before.before.v.given.1 n.says);
-      small = subst (Small c.before.before.before.before.before.before.before.before.args.w) c.before.before.v.given.1 n.small;
+      says = read _ _ _ _ _ c.if-self.true c.going.ensures (heard says_number c.in-Got.is n.says);
+      small = subst (Small c.args.w) c.in-Got.is n.small;
     }
 
-returns-2 : tie.Need-returns-2
+returns-2 : tie.Need-returns-in-Refused
 returns-2 c =
     record {
-      says = broke _ _ _ _ _ c.before.before.before.before.before.before.if1.true c.stopped.ensures (heard says_number c.before.before.f.given.1 c.before.before.before.before.num-at.ensures.says);
-      small = one-le-pow c.before.before.before.before.before.before.before.before.args.w 256 (lit≤ tt);
+      says = broke _ _ _ _ _ c.if-self.true c.stopped.ensures (heard says_number c.in-Refused.is c.num_at.ensures.says);
+      small = one-le-pow c.args.w 256 (lit≤ tt);
     }
 
-returns-3 : tie.Need-returns-3
+returns-3 : tie.Need-returns-else-self
 returns-3 c =
-    record { says = passed _ _ _ c.if1.false; small = one-le-pow c.before.before.args.w 256 (lit≤ tt) }
+    record { says = passed _ _ _ c.if-self.false; small = one-le-pow c.args.w 256 (lit≤ tt) }
 
-pub number-spec : {M : Type 1} → statement M
-number-spec =
+pub number_spec : {M : Type 1} → statement M
+number_spec =
     tie.close
     (tie.spec
     (λ c κs. search rules)

@@ -8,13 +8,13 @@ use Rattle.wire.proofs.run.Run.range.Tie as tie
 returns : tie.Need-returns
 unfolding range_at
 returns c =
-    link _ _ _ _ _ c.before.before.before.before.before.before.values.ensures
-    (link _ _ _ _ _ c.before.before.before.before.before.values2.ensures
-    (link _ _ _ _ _ c.before.before.before.before.values3.ensures
+    link _ _ _ _ _ c.values-low.ensures
+    (link _ _ _ _ _ c.values-high.ensures
+    (link _ _ _ _ _ c.values-step.ensures
     (kept _ _)))
 
-pub range-spec : {M : Type 1} → statement M
-range-spec =
+pub range_spec : {M : Type 1} → statement M
+range_spec =
     tie.close
     (tie.spec
     (λ c κs. search rules)

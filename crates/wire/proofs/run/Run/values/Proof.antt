@@ -7,23 +7,23 @@ use borrow.Author.Rules.{rules}
 use Rattle.wire.proofs.run.Run.values.Statement.{statement}
 use Rattle.wire.proofs.run.Run.values.Tie as tie
 
-sub-t14 : tie.Need-overflow-sub-t14
+sub-t14 : tie.Need-overflow_sub-result
 sub-t14 c =
-    let a = c.before.before.before.before.before.before.before.args in
-    values_ahead a.code a.s.now a.n _ _ (heard says_span c.before.next.given.1 c.before.before.before.past-values.ensures)
+    let a = c.args in
+    values_ahead a.code a.s.now a.n _ _ (heard says_span c.in-Till.is c.past_values.ensures)
 
-returns : tie.Need-returns
+returns : tie.Need-returns-in-Till
 returns c =
-    let a = c.before.before.before.before.before.before.before.before.args in
-    read _ _ _ _ _ c.before.before.before.before.before.before.if1.true c.going.ensures (values_got a.code a.s.now a.n _ _ (heard says_span c.before.before.next.given.1 c.before.before.before.before.past-values.ensures))
+    let a = c.args in
+    read _ _ _ _ _ c.if-self.true c.going.ensures (values_got a.code a.s.now a.n _ _ (heard says_span c.in-Till.is c.past_values.ensures))
 
-returns-2 : tie.Need-returns-2
+returns-2 : tie.Need-returns-in-Refused
 returns-2 c =
-    let a = c.before.before.before.before.before.before.before.before.args in
-    broke _ _ _ _ _ c.before.before.before.before.before.before.if1.true c.stopped.ensures (values_refused a.code a.s.now a.n _ _ (heard says_span c.before.before.f.given.1 c.before.before.before.before.past-values.ensures))
+    let a = c.args in
+    broke _ _ _ _ _ c.if-self.true c.stopped.ensures (values_refused a.code a.s.now a.n _ _ (heard says_span c.in-Refused.is c.past_values.ensures))
 
-pub values-spec : {M : Type 1} → statement M
-values-spec =
+pub values_spec : {M : Type 1} → statement M
+values_spec =
     tie.close
     (tie.spec
     (λ c κs. search rules)
@@ -34,4 +34,4 @@ values-spec =
     (λ c κs. search rules)
     returns
     returns-2
-    (λ c. passed _ _ _ c.if1.false))
+    (λ c. passed _ _ _ c.if-self.false))
