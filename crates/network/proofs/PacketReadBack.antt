@@ -13,7 +13,7 @@ use Rattle.layout.specs.Bytes.{bytes, number}
 use Rattle.layout.specs.Format.{Stands}
 use Rattle.layout.proofs.laws.Numbers.{length_bytes, number_bytes}
 use Rattle.layout.proofs.laws.Reading.{field_there}
-use Rattle.layout.proofs.laws.Words.{front, split, fits}
+use Rattle.layout.proofs.laws.Words.{front, split}
 use Rattle.wire.specs.Returned.{part_of}
 use Rattle.network.specs.Packet.{is_packet, phase_size, code_size, total_size, head_size, whole_fields, packet_in, packet_rest, packet_at, packet_word, says_packet}
 use Rattle.network.specs.declared.packet.Packet.{Packet}

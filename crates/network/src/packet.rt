@@ -6,7 +6,7 @@ use layout::Refusal;
 use wire::{Cursor, Part, ReadU32};
 
 // A packet of any kind, its parameters or data by their place; a number that its kind has not is 0.
-#[derive(Drop)]
+#[derive(Clone, Copy)]
 pub struct Packet {
     pub kind: u32,
     pub phase: u32,

@@ -13,7 +13,7 @@ use layout::Refusal;
 use wire::{Container, Cursor, Part, ReadContainer};
 
 // How far a row of items is a transaction: nothing yet; a Command or request; start data; all data; a Response; or it is none.
-#[derive(Drop)]
+#[derive(Clone, Copy)]
 pub(crate) enum Stage {
     First,
     Asked,

@@ -129,6 +129,7 @@ written_read kind body old new n promised r e = let b = record_returns kind body
   where
     not_a_note : (c : Content) → Held body new c → c ≡ content.note → ⊥
     not_a_note (content.holds x) h e = zero_one (cc)
+    not_a_note content.note h e = elim h [ ]
 
 -- ── a record alone ──
 

@@ -29,7 +29,7 @@ use Rattle.recording.specs.declared.ReadRecord.{ReadRecord}
 
 -- ── tests of a record ──
 
-begins_row : {A : Type 0} {Q : A → Type 0} (len kind : ℕ) (x : A) {y : A} → (6 ≤ len → Q x) → ((len < 6) ⊎ (kind < 1) ⊎ (3 < kind) gives y else Q) (pick (begins len kind) x y)
+begins_row : {A : Type 0} {Q : A → Type 0} (len kind : ℕ) (x : A) {y : A} → (6 ≤ len → Q x) → (((len < 6) ⊎ (kind < 1) ⊎ (3 < kind)) gives y else Q) (pick (begins len kind) x y)
 unfolding is_kind
 begins_row {A} {Q} len kind x {y} f = go (leb 6 len) refl (leb 1 kind) refl (leb kind 3) refl
   where
@@ -38,7 +38,7 @@ begins_row {A} {Q} len kind x {y} f = go (leb 6 len) refl (leb 1 kind) refl (leb
     none l low high (inr (inl h)) = enough low h
     none l low high (inr (inr h)) = enough high h
 
-    go : (a : Bool) → leb 6 len ≡ a → (b : Bool) → leb 1 kind ≡ b → (c : Bool) → leb kind 3 ≡ c → ((len < 6) ⊎ (kind < 1) ⊎ (3 < kind) gives y else Q) (pick (pick a (pick b c false) false) x y)
+    go : (a : Bool) → leb 6 len ≡ a → (b : Bool) → leb 1 kind ≡ b → (c : Bool) → leb kind 3 ≡ c → (((len < 6) ⊎ (kind < 1) ⊎ (3 < kind)) gives y else Q) (pick (pick a (pick b c false) false) x y)
     go false d b e c g = holds (inl (leb-false 6 len d))
     go true d false e c g = holds (inr (inl (leb-false 1 kind e)))
     go true d true e false g = holds (inr (inr (leb-false kind 3 g)))

@@ -192,3 +192,4 @@ all_read (suc f) s h b all = go (ltb 0 (length s)) refl (record_of s) refl all (
         let size : n ≡ length w = omega (arith, st.till) in
         let behind : drop n s ≡ drop (length w) s = ap (λ m. drop m s) size in
         (entry_in s x ∷ es, subst (λ v. Recording loose v (entry_in s x ∷ es)) (ap (λ v. w ++ v) behind ∙ rest_of st) (one_more {xs = es} g r))
+    go true e (refused _) is all shorter = elim all [ ]

@@ -19,7 +19,7 @@ abbrev pub HeadTests : {A : Type 0} → List ℕ → (Answer A → Type 0) → A
 HeadTests s rest =
     length s < 4 gives refused (end_at 0) else
     length s < 6 gives refused (end_at 4) else
-    (announced s < 6) ⊎ (kind_in s < 1) ⊎ (3 < kind_in s) gives refused (bare RECORD) else
+    ((announced s < 6) ⊎ (kind_in s < 1) ⊎ (3 < kind_in s)) gives refused (bare RECORD) else
     limit < announced s - 6 gives refused (bare LONG) else
     length s < announced s gives refused (end_at 6) else
     rest

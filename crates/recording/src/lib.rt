@@ -1,4 +1,6 @@
 // Records of a recording, read and written one at a time; a recording as a whole; and one copied without its notes.
+#![tactic(auto)]
+
 ghost use Rattle.std.specs.Prelude.{◌≡◌, ◌≤◌, length};
 ghost use Rattle.layout.specs.Written.{Wrote, says, says_written};
 ghost use Rattle.recording.specs.Record.{limit, is_kind, is_written, content_at, body_at, head_at, record_at, record_of, record_word, record_said, says_read_content, says_head, says_record};

@@ -1,7 +1,7 @@
 -- What `find_answer` and `find_response` answer, by the paper's words: found exactly where a transaction stands at the front, told as its Response and its last Data say; refused exactly with
 -- what stops the front. One induction over the steps of the search, and one over the containers.
 -- Assumes nothing.
-use Rattle.std.proofs.Common.{◌≡◌, ℕ, zero, suc, ◌+◌, ◌-◌, ◌<◌, ◌≤◌, Bool, true, false, eqb, leb, ◌↔◌, List, [], ◌∷◌, ◌++◌, length, drop, sym, refl, ap, ◌∙◌, subst, arith, eq-eqb, ne_eqb, eqb-true, le-leb, leb-false, leb-true}
+use Rattle.std.proofs.Common.{◌≡◌, ℕ, zero, suc, ◌-◌, ◌<◌, ◌≤◌, Bool, true, false, eqb, leb, ◌↔◌, List, [], ◌∷◌, ◌++◌, length, drop, sym, refl, ap, ◌∙◌, subst, arith, eq-eqb, ne_eqb, eqb-true, le-leb, leb-false, leb-true}
 use borrow.Author.Tests.{lt-leb, eqb-false}
 use Rattle.layout.specs.Answer.{Told, Answer, got, refused, pick, after, means, bare}
 use Rattle.layout.specs.Refusals.{TID, NOPHASE}

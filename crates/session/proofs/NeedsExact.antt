@@ -1,6 +1,6 @@
 -- `needed` by the functions' own answers: one number is the least, it is what is lacking by the containers, and it is 0 exactly where the answer is settled.
 -- Assumes nothing.
-use Rattle.std.proofs.Common.{◌≡◌, ℕ, ◌+◌, ◌≤◌, Bool, true, false, eqb, leb, ◌↔◌, List, ◌++◌, length, drop, sym, refl, subst, inl, inr, append-nil, arith, eqb-true, leb-false, leb-true}
+use Rattle.std.proofs.Common.{◌≡◌, ℕ, ◌≤◌, Bool, true, false, eqb, leb, ◌↔◌, List, ◌++◌, length, drop, sym, refl, subst, inl, inr, append-nil, arith, eqb-true, leb-false, leb-true}
 use borrow.Author.Tests.{eqb-false}
 use Rattle.layout.specs.Answer.{Told, Answer, got, refused}
 use Rattle.layout.specs.Bytes.{Bytes}

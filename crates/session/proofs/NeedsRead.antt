@@ -3,7 +3,7 @@
 use Rattle.std.proofs.Common.{◌≡◌, ℕ, ◌+◌, ◌-◌, ◌<◌, ◌≤◌, Bool, true, false, eqb, List, length, drop, sym, refl, ap, ◌∙◌, subst, inl, inr, arith, length-drop, eqb-true, le-leb}
 use borrow.Author.Tests.{lt-leb, eqb-false}
 use Rattle.layout.specs.Answer.{Told, Answer, got, refused, pick, after, end_at, bare, span_at, field_at}
-use Rattle.layout.specs.Bytes.{Bytes, number}
+use Rattle.layout.specs.Bytes.{Bytes}
 use Rattle.layout.specs.Refusals.{END, KIND, LENGTH, SIZE}
 use Rattle.layout.proofs.laws.Make.{span_there}
 use Rattle.layout.proofs.laws.Numbers.{zero_one}

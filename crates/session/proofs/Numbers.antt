@@ -164,6 +164,7 @@ some_open (made {codes = codes} {x = x} {code = code} r m) h = of (λ s. some_op
     of was (begins_again o s c l) h = still c (was s)
 
 pub open_some : {codes : List ℕ} {x : Session} → Run codes x → Open codes → 0 < x.number
+open_some start x = elim x [ ]
 open_some (made r m) (opened o) = omega (arith, (opens_row o (made_row m)).1)
 open_some (made {x = x} {code = code} r m) (still on p) = of (open_some r p) (made_row m)
   where

@@ -1,4 +1,6 @@
 // Transactions and camera calls, above the byte layer, which they know only through its promises. What is right is in specs/.
+#![tactic(auto)]
+
 mod call;
 mod lack;
 mod payload;

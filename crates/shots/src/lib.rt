@@ -1,4 +1,6 @@
 // A table whose objects are deleted, collected and added. What is right is in specs/.
+#![tactic(auto)]
+
 mod addition;
 mod collection;
 mod deletion;

@@ -4,7 +4,7 @@
 use mathlib.Core.Path.{◌≡◌, refl, sym, ap, ◌∙◌}
 use mathlib.Core.Bool.{Bool, true, false, ◌&&◌}
 use mathlib.Core.List.{List, [], ◌∷◌, ◌++◌}
-use Prim.Native.Nat.{ℕ, zero, suc, ◌+◌, ◌-◌, ◌≤◌, ◌<◌}
+use Prim.Native.Nat.{ℕ, zero, suc, ◌-◌, ◌≤◌, ◌<◌}
 use native.Mathlib.Omega.{arith}
 use borrow.Author.Tests.{lt-ltb, le-ltb}
 use lib.Dec.{ltb}
@@ -120,8 +120,8 @@ module _ {ps : List ℕ} (rule : Ruled ps) {has : ℕ → Bool} (marks : Marks p
     turns =
         same_size (0 ∷ chains fs ns l) l
         (λ k. equal k 0
-        (λ e. rw e
-        (let z : times 0 (chains fs ns l) ≡ 0 = rw (chains_below l) (below_root ps rule has marks l) in
+        (λ e.
+        let z : times 0 (chains fs ns l) ≡ 0 = rw (chains_below l) (below_root ps rule has marks l) in
         let o : times 0 l ≡ 1 = w.once 0 ∙ ap (λ (b : Bool). pick {A = ℕ} b 1 0) marks.root in
-        let h = hit 0 0 (chains fs ns l) refl in omega arith))
+        hit k 0 (chains fs ns l) e ∙ ap suc (ap (λ (x : ℕ). times x (chains fs ns l)) e ∙ z) ∙ sym (ap (λ (x : ℕ). times x l) e ∙ o))
         (λ e. let h : 0 < k = omega arith in miss k 0 (chains fs ns l) e ∙ rw (lt-ltb 0 k h) at (chains_once k) ∙ sym (w.once k)))

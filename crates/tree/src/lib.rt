@@ -1,4 +1,6 @@
 // The object table: its rule, its walk, its folder view and its paths. What is right is in specs/.
+#![tactic(auto)]
+
 mod climb;
 mod every;
 mod linking;

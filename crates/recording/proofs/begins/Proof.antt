@@ -4,10 +4,10 @@ use borrow.Author.Rules.{rules}
 use Rattle.recording.proofs.begins.Statement.{statement}
 use Rattle.recording.proofs.begins.Tie as tie
 
-pub begins-spec : {M : Type 1} → statement M
-begins-spec =
+pub begins_spec : {M : Type 1} → statement M
+begins_spec =
     tie.close
     (tie.spec
-    (λ c. rw (lt-leb 6 c.before.args.len c.if1.true))
+    (λ c. rw (lt-leb 6 c.args.len c.if-len-lt6.true))
     (λ c κs. search rules)
-    (λ c. rw (le-leb 6 c.before.before.args.len c.before.if1.false) c.is-kind.ensures))
+    (λ c. rw (le-leb 6 c.args.len c.if-len-lt6.false) c.is_kind.ensures))

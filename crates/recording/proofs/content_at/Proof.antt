@@ -8,35 +8,35 @@ use borrow.Author.Rules.{rules}
 use Rattle.recording.proofs.content_at.Statement.{statement}
 use Rattle.recording.proofs.content_at.Tie as tie
 
-returns : tie.Need-returns
+returns : tie.Need-returns-then-kind-eq3
 unfolding content_at
-returns c = rw (eq-eqb c.before.before.args.kind 3 c.if1.true)
+returns c = rw (eq-eqb c.args.kind 3 c.if-kind-eq3.true)
 
-returns-2 : tie.Need-returns-2
+returns-2 : tie.Need-returns-then-next-s
 unfolding content_at
 returns-2 c =
-    let k = c.before.before.before.before in
-    let a = k.before.before.before.before.before.args in
-    let n = k.x.given.0.1.0.at in
-    rw (ne_eqb a.kind 3 k.before.before.before.if1.false)
-    (follow _ (heard says_container k.x.given.1 k.before.before.read-container.ensures) (rw (ne_eqb n (length a.s.now) c.before.if2.true, c.plain.ensures)))
+    let k = c in
+    let a = k.args in
+    let n = k.in-Got.next.at in
+    rw (ne_eqb a.kind 3 k.if-kind-eq3.false)
+    (follow _ (heard says_container k.in-Got.is k.read_container.ensures) (rw (ne_eqb n (length a.s.now) c.if-next-s.true, c.plain.ensures)))
 
-returns-3 : tie.Need-returns-3
+returns-3 : tie.Need-returns-else-next-s
 unfolding content_at
 returns-3 c =
-    let k = c.before.before.before in
-    let a = k.before.before.before.before.before.args in
-    let n = k.x.given.0.1.0.at in
-    rw (ne_eqb a.kind 3 k.before.before.before.if1.false)
-    (follow _ (heard says_container k.x.given.1 k.before.before.read-container.ensures) (rw (eq-eqb n (length a.s.now) c.if2.false)))
+    let k = c in
+    let a = k.args in
+    let n = k.in-Got.next.at in
+    rw (ne_eqb a.kind 3 k.if-kind-eq3.false)
+    (follow _ (heard says_container k.in-Got.is k.read_container.ensures) (rw (eq-eqb n (length a.s.now) c.if-next-s.false)))
 
-returns-4 : tie.Need-returns-4
+returns-4 : tie.Need-returns-in-Refused
 unfolding content_at
 returns-4 c =
-    rw (ne_eqb c.before.before.before.before.before.before.args.kind 3 c.before.before.before.before.if1.false) (stop _ (heard says_container c.before.f.given.1 c.before.before.before.read-container.ensures))
+    rw (ne_eqb c.args.kind 3 c.if-kind-eq3.false) (stop _ (heard says_container c.in-Refused.is c.read_container.ensures))
 
-pub content-at-spec : {M : Type 1} → statement M
-content-at-spec =
+pub content_at_spec : {M : Type 1} → statement M
+content_at_spec =
     tie.close
     (tie.spec
     returns

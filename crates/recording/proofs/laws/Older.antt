@@ -26,7 +26,7 @@ use Rattle.recording.specs.Content.{Record}
 use Rattle.recording.specs.Record.{limit, begins, content_at, body_at, head_at, record_at, record_of}
 use Rattle.recording.specs.Row.{followed, found, records_in}
 use Rattle.recording.specs.declared.Head.{Head}
-use Rattle.recording.specs.Older.{body_up_to, head_up_to, record_up_to, found_up_to, records_up_to, LongAnnounced, AllRead, one_more, EndsWith, here, after_one}
+use Rattle.recording.specs.Older.{body_up_to, head_up_to, record_up_to, found_up_to, records_up_to, LongAnnounced, AllRead, one_more, EndsWith, here, after_one, none}
 
 -- ── at today's limit they are today's ──
 
@@ -119,11 +119,14 @@ module _ (a b : ℕ) (h : a ≤ b) where
 
 -- one that was read to its end
 pub read_not_long : {row : List (Answer Record)} {t : Told} → AllRead row → EndsWith t row → ⊥
+read_not_long none e = elim e [ ]
 read_not_long (one_more h) (after_one e) = read_not_long h e
 
 -- one that another refusal ends
-pub other_not_long : {row : List (Answer Record)} {t u : Told} → EndsWith t row → (t ≡ u → ⊥) → EndsWith u row → ⊥
+pub other_not_long : {t u : Told} {row : List (Answer Record)} → EndsWith t row → (t ≡ u → ⊥) → EndsWith u row → ⊥
 other_not_long here f here = f refl
+other_not_long here f (after_one g) = elim g [ ]
+other_not_long (after_one e) f here = elim e [ ]
 other_not_long (after_one e) f (after_one g) = other_not_long e f g
 
 -- ── LONG exactly ──

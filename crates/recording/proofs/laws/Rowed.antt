@@ -140,7 +140,7 @@ not_end number h e = let f : eqb number END ≡ true = rw (bare_no number) at e 
 -- the tests of a head by its two numbers and how many bytes there are
 abbrev Known : ℕ → ℕ → ℕ → Answer Head → Type 0
 Known len kind n =
-    (len < 6) ⊎ (kind < 1) ⊎ (3 < kind) gives refused (bare RECORD) else
+    ((len < 6) ⊎ (kind < 1) ⊎ (3 < kind)) gives refused (bare RECORD) else
     limit < len - 6 gives refused (bare LONG) else
     n < len gives refused (end_at 6) else
     Otherwise (got (record { kind = kind; body = record { start = 6; count = len - 6 } }) len)

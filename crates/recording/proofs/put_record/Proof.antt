@@ -7,19 +7,19 @@ use borrow.Author.Rules.{rules}
 use Rattle.recording.proofs.put_record.Statement.{statement}
 use Rattle.recording.proofs.put_record.Tie as tie
 
-returns : tie.Need-returns
+returns : tie.Need-returns-then-out-whole
 returns c =
-    let a = c.before.before.before.before.args in
+    let a = c.args in
     no_room refl (omega (arith, record_length a.kind a.body.now)) c.plain.ensures
 
-returns-2 : tie.Need-returns-2
+returns-2 : tie.Need-returns
 returns-2 c =
-    let a = c.before.before.before.before.before.before.before.before.before.before.before.before.before.before.before.args in
-    done refl (omega (arith, c.before.before.before.before.before.before.before.before.before.before.before.before.if1.false, record_length a.kind a.body.now))
-    (record_put a.kind a.body.now c.before.before.before.before.before.before.before.before.before.before.before.before.if1.false c.before.before.before.before.before.before.before.before.before.before.store.ensures c.before.before.before.before.before.before.store2.ensures c.before.before.copy.ensures)
+    let a = c.args in
+    done refl (omega (arith, c.if-out-whole.false, record_length a.kind a.body.now))
+    (record_put a.kind a.body.now c.if-out-whole.false c.store-a.ensures c.store-b.ensures c.copy.ensures)
 
-pub put-record-spec : {M : Type 1} → statement M
-put-record-spec =
+pub put_record_spec : {M : Type 1} → statement M
+put_record_spec =
     tie.close
     (tie.spec
     (λ c. search rules)

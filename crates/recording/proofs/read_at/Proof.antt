@@ -12,50 +12,50 @@ use borrow.Author.Rules.{rules}
 use Rattle.recording.proofs.read_at.Statement.{statement}
 use Rattle.recording.proofs.read_at.Tie as tie
 
-slice-aggregate-content-at : tie.Need-slice-aggregate-content-at
+slice-aggregate-content-at : tie.Need-slice_bounds-content_at-end
 slice-aggregate-content-at c =
-    let k = c.before.before.before in
-    let p = accepted _ (head_placed k.before.before.before.before.args.s.now k.before.before.before.before.args.at) (heard says_head k.head.given.1 k.before.before.read_head.ensures) in
+    let k = c in
+    let p = accepted _ (head_placed k.args.s.now k.args.at) (heard says_head k.in-Got.is k.read_head.ensures) in
     sym (length-take-le _ _ p.2)
 
-returns-2 : tie.Need-returns-2
+returns-2 : tie.Need-returns-in-Got-content_at
 unfolding record_at
 returns-2 c =
-    let k = c.before.before.before.before.before.before.before in
-    let h = heard says_head k.head.given.1 k.before.before.read_head.ensures in
-    let last = k.before.before.before.before.args.last in
+    let k = c in
+    let h = heard says_head k.in-Got.is k.read_head.ensures in
+    let last = k.args.last in
     record {
-      answer = follow _ h (meant _ (heard says_read_content c.before.content.given.1 c.before.before.before.content-at.ensures));
+      answer = follow _ h (meant _ (heard says_read_content c.in-Got-content_at.is c.content_at.ensures));
       waiting = sym (pick_alike last false) ∙ ap (λ a. pick last false (is_end a)) h;
     }
 
-returns-3 : tie.Need-returns-3
+returns-3 : tie.Need-returns-in-Refused-content_at
 unfolding record_at
 returns-3 c =
-    let k = c.before.before.before.before.before.before.before in
-    let h = heard says_head k.head.given.1 k.before.before.read_head.ensures in
-    let last = k.before.before.before.before.args.last in
+    let k = c in
+    let h = heard says_head k.in-Got.is k.read_head.ensures in
+    let last = k.args.last in
     record {
-      answer = follow _ h (not_meant _ (heard says_read_content c.before.f.given.1 c.before.before.before.content-at.ensures));
+      answer = follow _ h (not_meant _ (heard says_read_content c.in-Refused-content_at.is c.content_at.ensures));
       waiting = sym (pick_alike last false) ∙ ap (λ a. pick last false (is_end a)) h;
     }
 
-returns : tie.Need-returns
+returns : tie.Need-returns-then-is_open
 unfolding record_at
 returns c =
-    let h = heard says_head c.before.before.before.f2.given.1 c.before.before.before.before.before.read_head.ensures in
-    let last = c.before.before.before.before.before.before.before.args.last in
-    record { answer = stop _ h; waiting = sym c.if1.true ∙ c.before.is_open.ensures ∙ ap (λ a. pick last false (is_end a)) h }
+    let h = heard says_head c.in-Refused.is c.read_head.ensures in
+    let last = c.args.last in
+    record { answer = stop _ h; waiting = sym c.if-is_open.true ∙ c.is_open.ensures ∙ ap (λ a. pick last false (is_end a)) h }
 
-returns-4 : tie.Need-returns-4
+returns-4 : tie.Need-returns-else-is_open
 unfolding record_at
 returns-4 c =
-    let h = heard says_head c.before.before.before.f2.given.1 c.before.before.before.before.before.read_head.ensures in
-    let last = c.before.before.before.before.before.before.before.args.last in
-    record { answer = stop _ h; waiting = sym c.if1.false ∙ c.before.is_open.ensures ∙ ap (λ a. pick last false (is_end a)) h }
+    let h = heard says_head c.in-Refused.is c.read_head.ensures in
+    let last = c.args.last in
+    record { answer = stop _ h; waiting = sym c.if-is_open.false ∙ c.is_open.ensures ∙ ap (λ a. pick last false (is_end a)) h }
 
-pub read-at-spec : {M : Type 1} → statement M
-read-at-spec =
+pub read_at_spec : {M : Type 1} → statement M
+read_at_spec =
     tie.close
     (tie.spec
     (λ c κs. search rules)

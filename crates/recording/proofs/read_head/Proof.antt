@@ -8,30 +8,30 @@ use borrow.Author.Rules.{rules}
 use Rattle.recording.proofs.read_head.Statement.{statement}
 use Rattle.recording.proofs.read_head.Tie as tie
 
-body-at-requires : tie.Need-body-at-requires
+body-at-requires : tie.Need-body_at-requires
 body-at-requires c κs =
-    let k = c.before in
-    field_ends 2 k.before.before.before.before.before.before.before.before.args.s.now _ (heard says_u16 k.kind.given.1 k.before.before.u16.ensures) (omega arith)
+    let k = c in
+    field_ends 2 k.args.s.now _ (heard says_u16 k.in-Got-u16.is k.u16.ensures) (omega arith)
 
-returns : tie.Need-returns
+returns : tie.Need-returns-in-Got-u16
 unfolding head_at
 returns c =
-    let k = c.before.before in
-    let h = k.before.before.before.before in
-    follow _ (heard says_u32 h.len.given.1 h.before.before.u32.ensures) (follow _ (heard says_u16 k.kind.given.1 k.before.before.u16.ensures) c.body_at.ensures)
+    let k = c in
+    let h = k in
+    follow _ (heard says_u32 h.in-Got.is h.u32.ensures) (follow _ (heard says_u16 k.in-Got-u16.is k.u16.ensures) c.body_at.ensures)
 
-returns-2 : tie.Need-returns-2
+returns-2 : tie.Need-returns-in-Refused-u16
 unfolding head_at
 returns-2 c =
-    let h = c.before.before.before.before.before in
-    follow _ (heard says_u32 h.len.given.1 h.before.before.u32.ensures) (stop _ (heard says_u16 c.before.f.given.1 c.before.before.before.u16.ensures))
+    let h = c in
+    follow _ (heard says_u32 h.in-Got.is h.u32.ensures) (stop _ (heard says_u16 c.in-Refused-u16.is c.u16.ensures))
 
-returns-3 : tie.Need-returns-3
+returns-3 : tie.Need-returns-in-Refused
 unfolding head_at
-returns-3 c = stop _ (heard says_u32 c.before.f2.given.1 c.before.before.before.u32.ensures)
+returns-3 c = stop _ (heard says_u32 c.in-Refused.is c.u32.ensures)
 
-pub read-head-spec : {M : Type 1} → statement M
-read-head-spec =
+pub read_head_spec : {M : Type 1} → statement M
+read_head_spec =
     tie.close
     (tie.spec
     (λ c κs. search rules)

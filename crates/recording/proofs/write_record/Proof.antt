@@ -1,6 +1,5 @@
 -- `recording::write_record`: the tests in their order, then the record. Assumes nothing.
 use mathlib.Core.Path.{sym, ◌∙◌}
-use borrow.Author.Tests.{not-true, not-false}
 use Rattle.layout.proofs.laws.Reading.{heard}
 use Rattle.layout.proofs.laws.Writing.{refusal}
 use Rattle.recording.specs.Record.{says_read_content}
@@ -9,31 +8,31 @@ use borrow.Author.Rules.{rules}
 use Rattle.recording.proofs.write_record.Statement.{statement}
 use Rattle.recording.proofs.write_record.Tie as tie
 
-returns : tie.Need-returns
+returns : tie.Need-returns-then-not-is_written
 returns c =
-    let a = c.before.before.before.before.before.args in
-    rw c.plain.ensures (refusal (said_13 a.kind a.body.now (sym c.before.before.is-written.ensures ∙ not-true _ c.before.if1.true)))
+    let a = c.args in
+    rw c.plain.ensures (refusal (said_13 a.kind a.body.now (sym c.is_written.ensures ∙ c.if-not-is_written.true)))
 
-returns-2 : tie.Need-returns-2
+returns-2 : tie.Need-returns-then-body-gt-LIMIT
 returns-2 c =
-    let a = c.before.before.before.before.before.before.args in
-    rw c.plain2.ensures (refusal (said_14 a.kind a.body.now (sym c.before.before.before.is-written.ensures ∙ not-false _ c.before.before.if1.false) c.before.if2.true))
+    let a = c.args in
+    rw c.plain-then-body-gt-LIMIT.ensures (refusal (said_14 a.kind a.body.now (sym c.is_written.ensures ∙ c.if-not-is_written.false) c.if-body-gt-LIMIT.true))
 
-returns-3 : tie.Need-returns-3
+returns-3 : tie.Need-returns-in-Got
 returns-3 c =
-    let k = c.before.before.before.before.before.before.before in
-    let a = k.before.before.before.before.before.args in
-    rw (said_bytes a.kind a.body.now (sym k.before.before.is-written.ensures ∙ not-false _ k.before.if1.false) k.if2.false (heard says_read_content c.before.before.before.before.enum_told.given.1 c.before.before.before.before.before.before.content-at.ensures))
-    c.before.before.put_record.ensures
+    let k = c in
+    let a = k.args in
+    rw (said_bytes a.kind a.body.now (sym k.is_written.ensures ∙ k.if-not-is_written.false) k.if-body-gt-LIMIT.false (heard says_read_content c.in-Got.is c.content_at.ensures))
+    c.put_record.ensures
 
-returns-4 : tie.Need-returns-4
+returns-4 : tie.Need-returns-in-Refused
 returns-4 c =
-    let k = c.before.before.before.before in
-    let a = k.before.before.before.before.before.args in
-    refusal (said_refused a.kind a.body.now (sym k.before.before.is-written.ensures ∙ not-false _ k.before.if1.false) k.if2.false (heard says_read_content c.before.f.given.1 c.before.before.before.content-at.ensures))
+    let k = c in
+    let a = k.args in
+    refusal (said_refused a.kind a.body.now (sym k.is_written.ensures ∙ k.if-not-is_written.false) k.if-body-gt-LIMIT.false (heard says_read_content c.in-Refused.is c.content_at.ensures))
 
-pub write-record-spec : {M : Type 1} → statement M
-write-record-spec =
+pub write_record_spec : {M : Type 1} → statement M
+write_record_spec =
     tie.close
     (tie.spec
     (λ c κs. search rules)

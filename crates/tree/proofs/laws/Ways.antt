@@ -8,7 +8,7 @@ use Prim.Native.Nat.{ℕ, zero, suc, ◌<◌}
 use native.Mathlib.Nat.{not-suc-le-zero}
 use native.Mathlib.Omega.{arith}
 use borrow.Author.Tests.{eq-eqb, ne_eqb, eqb-false}
-use lib.ListN.{length, length-append}
+use lib.ListN.{length, get_or, length-append}
 use lib.Dec.{eqb}
 use Rattle.layout.specs.Answer.{pick}
 use Rattle.tree.specs.Facts.{Ruled}
@@ -20,11 +20,29 @@ use Rattle.tree.proofs.Alone.{unique}
 
 -- ── left to right ──
 
+-- a list without its first entry
+unfoldable after_first : List ℕ → List ℕ
+after_first [] = []
+after_first (x ∷ l) = l
+
+-- for lists that are the same, so that no index stands twice
+left_apart : {s t u v : List ℕ} → Left s t → Left u v → s ≡ v → t ≡ u → ⊥
+unfolding after_first
+left_apart (here h) (here g) e f = omega (arith, ap (λ (l : List ℕ). get_or l 0 0) e, ap (λ (l : List ℕ). get_or l 0 0) f)
+left_apart (here h) (there q) e f = omega (arith, ap (λ (l : List ℕ). get_or l 0 0) e, ap (λ (l : List ℕ). get_or l 0 0) f)
+left_apart (here h) stops e f = omega (arith, ap length f)
+left_apart (there p) (here g) e f = omega (arith, ap (λ (l : List ℕ). get_or l 0 0) e, ap (λ (l : List ℕ). get_or l 0 0) f)
+left_apart (there p) (there q) e f = left_apart p q (ap after_first e) (ap after_first f)
+left_apart (there p) stops e f = omega (arith, ap length f)
+left_apart stops q e f = stopped q e
+  where
+    stopped : {u v : List ℕ} → Left u v → [] ≡ v → ⊥
+    stopped (here g) e = omega (arith, ap length e)
+    stopped (there q) e = omega (arith, ap length e)
+    stopped stops e = omega (arith, ap length e)
+
 pub left_never : {s t : List ℕ} → Left s t → Left t s → ⊥
-left_never (here h) (here g) = omega arith
-left_never (here h) (there q) = omega arith
-left_never (there p) (here g) = omega arith
-left_never (there p) (there q) = left_never p q
+left_never p q = left_apart p q refl refl
 
 left_on : {s t : List ℕ} (x y : List ℕ) → length s ≡ length t → Left s t → Left (s ++ x) (t ++ y)
 left_on x y e (here h) = here h

@@ -5,18 +5,18 @@ use borrow.Author.Rules.{rules}
 use Rattle.network.proofs.packet.head_size.Statement.{statement}
 use Rattle.network.proofs.packet.head_size.Tie as tie
 
-add-result : tie.Need-overflow-add-result
-add-result c = omega (arith, phase_most c.before.args.kind)
+add-result : tie.Need-overflow_add-result
+add-result c = omega (arith, phase_most c.args.kind)
 
-add-result-2 : tie.Need-overflow-add-result-2
-add-result-2 c = omega (arith, phase_most c.before.before.args.kind, code_most c.before.before.args.kind)
+add-result-2 : tie.Need-overflow_add-result-2
+add-result-2 c = omega (arith, phase_most c.args.kind, code_most c.args.kind)
 
-add-result-3 : tie.Need-overflow-add-result-3
+add-result-3 : tie.Need-overflow_add-result-3
 add-result-3 c =
-    omega (arith, phase_most c.before.before.before.args.kind, code_most c.before.before.before.args.kind, total_most c.before.before.before.args.kind)
+    omega (arith, phase_most c.args.kind, code_most c.args.kind, total_most c.args.kind)
 
-pub head-size-spec : {M : Type 1} → statement M
-head-size-spec =
+pub head_size_spec : {M : Type 1} → statement M
+head_size_spec =
     tie.close
     (tie.spec
     (λ c κs. search rules)

@@ -1,6 +1,6 @@
 -- `network::packet::packet_rest`: its tests in their order. Assumes nothing.
 use native.Mathlib.Omega.{arith}
-use borrow.Author.Tests.{le-leb, lt-leb, not-true, not-false}
+use borrow.Author.Tests.{le-leb, lt-leb}
 use mathlib.Core.Path.{sym, ◌∙◌}
 use lib.ListN.{length}
 use Prim.Native.Nat.{◌-◌}
@@ -10,43 +10,43 @@ use borrow.Author.Rules.{rules}
 use Rattle.network.proofs.packet.packet_rest.Statement.{statement}
 use Rattle.network.proofs.packet.packet_rest.Tie as tie
 
-returns : tie.Need-returns
+returns : tie.Need-returns-then-not-is_packet
 unfolding packet_rest
 returns c =
-    let none = sym c.before.before.is-packet.ensures ∙ not-true _ c.before.if1.true in
+    let none = sym c.is_packet.ensures ∙ c.if-not-is_packet.true in
     rw (none, c.plain.ensures)
 
-returns-2 : tie.Need-returns-2
+returns-2 : tie.Need-returns-then-not-whole_fields
 unfolding packet_rest
 returns-2 c =
-    let one = sym c.before.before.before.before.is-packet.ensures ∙ not-false _ c.before.before.before.if1.false in
-    let none = sym c.before.before.whole_fields.ensures ∙ not-true _ c.before.if2.true in
-    rw (one, none, c.plain2.ensures)
+    let one = sym c.is_packet.ensures ∙ c.if-not-is_packet.false in
+    let none = sym c.whole_fields.ensures ∙ c.if-not-whole_fields.true in
+    rw (one, none, c.plain-then-not-whole_fields.ensures)
 
-returns-3 : tie.Need-returns-3
+returns-3 : tie.Need-returns-then-s-at
 unfolding packet_rest
 returns-3 c =
-    let a = c.before.before.before.before.before.before.before.args in
-    let one = sym c.before.before.before.before.before.is-packet.ensures ∙ not-false _ c.before.before.before.before.if1.false in
-    let whole = sym c.before.before.before.whole_fields.ensures ∙ not-false _ c.before.before.if2.false in
-    rw (one, whole, lt-leb a.len (length a.s.now - a.at) c.before.if3.true, c.end-at.ensures)
+    let a = c.args in
+    let one = sym c.is_packet.ensures ∙ c.if-not-is_packet.false in
+    let whole = sym c.whole_fields.ensures ∙ c.if-not-whole_fields.false in
+    rw (one, whole, lt-leb a.len (length a.s.now - a.at) c.if-s-at.true, c.end_at.ensures)
 
-packet-in-requires : tie.Need-packet-in-requires
+packet-in-requires : tie.Need-packet_in-requires
 packet-in-requires c κs =
-    let a = c.before.before.before.before.before.before.args in
-    let whole = sym c.before.before.whole_fields.ensures ∙ not-false _ c.before.if2.false in
+    let a = c.args in
+    let whole = sym c.whole_fields.ensures ∙ c.if-not-whole_fields.false in
     (whole_head a.kind a.len whole, omega arith)
 
-returns-4 : tie.Need-returns-4
+returns-4 : tie.Need-returns
 unfolding packet_rest
 returns-4 c =
-    let a = c.before.before.before.before.before.before.before.args in
-    let one = sym c.before.before.before.before.before.is-packet.ensures ∙ not-false _ c.before.before.before.before.if1.false in
-    let whole = sym c.before.before.before.whole_fields.ensures ∙ not-false _ c.before.before.if2.false in
-    rw (one, whole, le-leb a.len (length a.s.now - a.at) c.before.if3.false, c.packet-in.ensures)
+    let a = c.args in
+    let one = sym c.is_packet.ensures ∙ c.if-not-is_packet.false in
+    let whole = sym c.whole_fields.ensures ∙ c.if-not-whole_fields.false in
+    rw (one, whole, le-leb a.len (length a.s.now - a.at) c.if-s-at.false, c.packet_in.ensures)
 
-pub packet-rest-spec : {M : Type 1} → statement M
-packet-rest-spec =
+pub packet_rest_spec : {M : Type 1} → statement M
+packet_rest_spec =
     tie.close
     (tie.spec
     (λ c κs. search rules)

@@ -7,18 +7,18 @@ use borrow.Author.Rules.{rules}
 use Rattle.network.proofs.put.has_room.Statement.{statement}
 use Rattle.network.proofs.put.has_room.Tie as tie
 
-returns : tie.Need-returns
-returns c = let a = c.before.args in rw (lt-leb (a.k + a.a + a.b + a.c) a.room (omega arith))
+returns : tie.Need-returns-then-room-k
+returns c = let a = c.args in rw (lt-leb (a.k + a.a + a.b + a.c) a.room (omega arith))
 
-returns-2 : tie.Need-returns-2
-returns-2 c = let a = c.before.before.args in rw (lt-leb (a.k + a.a + a.b + a.c) a.room (omega arith))
+returns-2 : tie.Need-returns-then-room-k-2
+returns-2 c = let a = c.args in rw (lt-leb (a.k + a.a + a.b + a.c) a.room (omega arith))
 
-returns-3 : tie.Need-returns-3
-returns-3 c = let a = c.before.before.before.args in rw (lt-leb (a.k + a.a + a.b + a.c) a.room (omega arith))
+returns-3 : tie.Need-returns-then-room-k-3
+returns-3 c = let a = c.args in rw (lt-leb (a.k + a.a + a.b + a.c) a.room (omega arith))
 
-returns-4 : tie.Need-returns-4
-returns-4 c = let a = c.before.before.before.args in room_for a.room a.k a.a a.b a.c (omega arith) (omega arith) (omega arith)
+returns-4 : tie.Need-returns
+returns-4 c = let a = c.args in room_for a.room a.k a.a a.b a.c (omega arith) (omega arith) (omega arith)
 
-pub has-room-spec : {M : Type 1} → statement M
-has-room-spec =
+pub has_room_spec : {M : Type 1} → statement M
+has_room_spec =
     tie.close (tie.spec returns returns-2 (λ c. search rules) returns-3 (λ c. search rules) (λ c. search rules) returns-4)

@@ -9,13 +9,13 @@ use Rattle.network.proofs.put.put_container.Tie as tie
 
 returns : tie.Need-returns
 returns c =
-    let a = c.before.before.before.before.before.before.before.before.before.before.args in
+    let a = c.args in
     let s = a.s.now in
     let n = a.body.count in
-    let long = part_length s a.body c.before.before.before.before.before.before.before.before.before.before.requires.0 in
-    let p = c.before.before.before.before.before.before.put-container-head.ensures in
-    let room = room_left p n (omega (arith, c.before.before.before.before.before.before.before.before.before.before.requires.1, head_length a.kind a.code a.number n)) in
-    box_put a.kind a.code a.number n long p (first {bs = part_of s a.body} (omega arith) c.before.before.copy.ensures)
+    let long = part_length s a.body c.requires.0 in
+    let p = c.put_container_head-a.ensures in
+    let room = room_left p n (omega (arith, c.requires.1, head_length a.kind a.code a.number n)) in
+    box_put a.kind a.code a.number n long p (first {bs = part_of s a.body} (omega arith) c.copy.ensures)
 
-pub put-container-spec : {M : Type 1} → statement M
-put-container-spec = tie.close (tie.spec (λ c κs. search rules) (λ c κs. search rules) (λ c. search rules) returns)
+pub put_container_spec : {M : Type 1} → statement M
+put_container_spec = tie.close (tie.spec (λ c κs. search rules) (λ c κs. search rules) (λ c. search rules) returns)

@@ -6,11 +6,11 @@ use Rattle.network.proofs.put.put_container_head.Tie as tie
 
 returns : tie.Need-returns
 returns c =
-    let a = c.before.before.before.before.before.before.before.before.before.before.before.before.before.before.before.before.before.args in
-    head_put a.kind a.code a.number a.count c.before.before.before.before.before.before.before.before.before.before.before.before.before.before.before.before.before.requires c.before.before.before.before.before.before.before.before.before.before.before.before.before.before.store.ensures c.before.before.before.before.before.before.before.before.before.before.store2.ensures c.before.before.before.before.before.before.store3.ensures c.before.before.store4.ensures
+    let a = c.args in
+    head_put a.kind a.code a.number a.count c.requires c.store-a.ensures c.store-b.ensures c.store-c.ensures c.store.ensures
 
-pub put-container-head-spec : {M : Type 1} → statement M
-put-container-head-spec =
+pub put_container_head_spec : {M : Type 1} → statement M
+put_container_head_spec =
     tie.close
     (tie.spec
     (λ c. search rules)

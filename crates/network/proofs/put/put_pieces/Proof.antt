@@ -9,42 +9,42 @@ use Rattle.network.proofs.PutLaws.{Piecing, piecing, piece_next, piece_never, pi
 use Rattle.network.proofs.put.put_pieces.Statement.{statement}
 use Rattle.network.proofs.put.put_pieces.Tie as tie
 
-abbrev invariant-loop : tie.invariant-loop
+abbrev invariant-loop : tie.invariant-loop-i
 invariant-loop s out₀ at o₀ i₀ out o i = Piecing s out o i out₀ at
 
-abbrev decreases-loop : tie.decreases-loop
+abbrev decreases-loop : tie.decreases-loop-i
 decreases-loop s out₀ at o₀ i₀ out o i = length s - i
 
-loop-holds : tie.Need-loop-init invariant-loop decreases-loop
-loop-holds c = let a = c.before.before.args in piecing a.s.now a.out.now a.at c.before.before.requires.0
+loop-holds : tie.Need-loop-i-init invariant-loop decreases-loop
+loop-holds c = let a = c.args in piecing a.s.now a.out.now a.at c.requires.0
 
-loop-less : tie.Need-loop-smaller invariant-loop decreases-loop
+loop-less : tie.Need-loop-i-smaller invariant-loop decreases-loop
 loop-less c =
-    let e = heard says_packet c.before.before.before.before.before.before.x.given.1 c.before.before.before.before.before.before.before.before.read-packet.ensures in
-    let p = piece_next c.before.before.before.before.before.before.before.before.before.before.loop.invariant c.before.before.before.before.before.before.before.before.before.before.before.before.before.requires.1 c.before.before.before.before.before.before.before.before.before.loop-test.true e (rw c.before.before.before.before.piece-size.ensures at c.before.before.copy.ensures) in
+    let e = heard says_packet c.in-Got.is c.read_packet.ensures in
+    let p = piece_next c.loop-i.invariant c.requires.1 c.loop-i-test.true e (rw c.piece_size.ensures at c.copy-o.ensures) in
     omega (arith, p.0, p.1)
 
-loop-again : tie.Need-loop-preserved invariant-loop decreases-loop
+loop-again : tie.Need-loop-i-preserved invariant-loop decreases-loop
 loop-again c =
-    let e = heard says_packet c.before.before.before.before.before.before.x.given.1 c.before.before.before.before.before.before.before.before.read-packet.ensures in
-    let p = piece_next c.before.before.before.before.before.before.before.before.before.before.loop.invariant c.before.before.before.before.before.before.before.before.before.before.before.before.before.requires.1 c.before.before.before.before.before.before.before.before.before.loop-test.true e (rw c.before.before.before.before.piece-size.ensures at c.before.before.copy.ensures) in
+    let e = heard says_packet c.in-Got.is c.read_packet.ensures in
+    let p = piece_next c.loop-i.invariant c.requires.1 c.loop-i-test.true e (rw c.piece_size.ensures at c.copy-o.ensures) in
     p.2
 
-same_length : tie.Need-same-length invariant-loop decreases-loop
-same_length c = c.before.before.before.before.loop.invariant.owes.long
+same_length : tie.Need-shape_of-out-in-Refused invariant-loop decreases-loop
+same_length c = c.loop-i.invariant.owes.long
 
-returns : tie.Need-returns invariant-loop decreases-loop
+returns : tie.Need-returns-in-Refused invariant-loop decreases-loop
 returns c =
-    piece_never c.before.before.before.before.loop.invariant c.before.before.before.loop-test.true (heard says_packet c.enum_told.given.1 c.before.before.read-packet.ensures)
+    piece_never c.loop-i.invariant c.loop-i-test.true (heard says_packet c.in-Refused.is c.read_packet.ensures)
 
-same-length-2 : tie.Need-same-length-2 invariant-loop decreases-loop
-same-length-2 c = c.before.loop.invariant.owes.long
+same-length-2 : tie.Need-shape_of-out invariant-loop decreases-loop
+same-length-2 c = c.loop-i.invariant.owes.long
 
-returns-2 : tie.Need-returns-2 invariant-loop decreases-loop
-returns-2 c = piece_end c.before.loop.invariant c.loop-test.false
+returns-2 : tie.Need-returns invariant-loop decreases-loop
+returns-2 c = piece_end c.loop-i.invariant c.loop-i-test.false
 
-pub put-pieces-spec : {M : Type 1} → statement M
-put-pieces-spec =
+pub put_pieces_spec : {M : Type 1} → statement M
+put_pieces_spec =
     tie.close
     (tie.spec
     invariant-loop

@@ -6,8 +6,8 @@ use Rattle.network.proofs.see.look_container.Tie as tie
 
 returns : tie.Need-returns
 unfolding look_container
-returns c = rw c.before.before.next-container.ensures at c.note.ensures
+returns c = rw c.next_container.ensures at c.note.ensures
 
-pub look-container-spec : {M : Type 1} → statement M
-look-container-spec =
+pub look_container_spec : {M : Type 1} → statement M
+look_container_spec =
     tie.close (tie.spec (λ c. search rules) (λ c κs. search rules) (λ c. search rules) (λ c κs. search rules) returns)

@@ -6,9 +6,9 @@ use Rattle.network.proofs.see.look_packet.Tie as tie
 
 returns : tie.Need-returns
 unfolding look_packet
-returns c = rw (c.before.before.before.before.next-packet.ensures, c.before.piece-size.ensures) at c.note.ensures
+returns c = rw (c.next_packet.ensures, c.piece_size.ensures) at c.note.ensures
 
-pub look-packet-spec : {M : Type 1} → statement M
-look-packet-spec =
+pub look_packet_spec : {M : Type 1} → statement M
+look_packet_spec =
     tie.close
     (tie.spec (λ c κs. search rules) (λ c. search rules) (λ c. search rules) (λ c κs. search rules) (λ c κs. search rules) returns)

@@ -5,10 +5,10 @@ use Rattle.network.proofs.see.note.Tie as tie
 
 returns : tie.Need-returns
 returns c =
-    rw (c.before.number-if4.ensures, c.before.before.part-if3.ensures, c.before.before.before.number-if3.ensures, c.before.before.before.before.part-if2.ensures, c.before.before.before.before.before.part-if.ensures, c.before.before.before.before.before.before.number-if2.ensures, c.before.before.before.before.before.before.before.bool-if.ensures, c.before.before.before.before.before.before.before.before.and.ensures, c.before.before.before.before.before.before.before.before.before.before.before.before.number-if.ensures)
+    rw (c.number_if-3.ensures, c.part_if-3.ensures, c.number_if-2.ensures, c.part_if-2.ensures, c.part_if.ensures, c.number_if.ensures, c.bool_if.ensures, c.and.ensures, c.number_if-ours.ensures)
 
-pub note-spec : {M : Type 1} → statement M
-note-spec =
+pub note_spec : {M : Type 1} → statement M
+note_spec =
     tie.close
     (tie.spec
     (λ c κs. search rules)

@@ -6,5 +6,5 @@ use Rattle.network.proofs.see.piece_size.Tie as tie
 returns : tie.Need-returns
 returns c = cc
 
-pub piece-size-spec : {M : Type 1} → statement M
-piece-size-spec = tie.close (tie.spec (λ c κs. search rules) (λ c κs. search rules) returns)
+pub piece_size_spec : {M : Type 1} → statement M
+piece_size_spec = tie.close (tie.spec (λ c κs. search rules) (λ c κs. search rules) returns)

@@ -12,47 +12,47 @@ use Rattle.network.proofs.SeenLoop.{packet_seen}
 use Rattle.network.proofs.see.see_packets.Statement.{statement}
 use Rattle.network.proofs.see.see_packets.Tie as tie
 
-abbrev invariant-loop : tie.invariant-loop
+abbrev invariant-loop : tie.invariant-loop-at
 invariant-loop s at₀ t₀ at t = Seeing packet_at look_packet s at t
 
-abbrev decreases-loop : tie.decreases-loop
+abbrev decreases-loop : tie.decreases-loop-at
 decreases-loop s at₀ t₀ at t = length s - at
 
-loop-holds : tie.Need-loop-init invariant-loop decreases-loop
-loop-holds c = rw c.none_seen.ensures (seeing packet_at look_packet c.before.before.args.s.now)
+loop-holds : tie.Need-loop-at-init invariant-loop decreases-loop
+loop-holds c = rw c.none_seen-t.ensures (seeing packet_at look_packet c.args.s.now)
 
-look-packet-requires : tie.Need-look-packet-requires invariant-loop decreases-loop
+look-packet-requires : tie.Need-look_packet-t-requires invariant-loop decreases-loop
 unfolding look_packet
 look-packet-requires c κs =
-    let e = heard says_packet c.before.x.given.1 c.before.before.before.read-packet.ensures in
-    let p = packet_seen c.before.before.before.before.before.loop.invariant c.before.before.before.before.loop-test.true e in
+    let e = heard says_packet c.in-Got.is c.read_packet.ensures in
+    let p = packet_seen c.loop-at.invariant c.loop-at-test.true e in
     omega (arith, p.1.sum, p.1.inside)
 
-loop-less : tie.Need-loop-smaller invariant-loop decreases-loop
+loop-less : tie.Need-loop-at-smaller invariant-loop decreases-loop
 loop-less c =
-    let e = heard says_packet c.before.before.x.given.1 c.before.before.before.before.read-packet.ensures in
-    let p = packet_seen c.before.before.before.before.before.before.loop.invariant c.before.before.before.before.before.loop-test.true e in
+    let e = heard says_packet c.in-Got.is c.read_packet.ensures in
+    let p = packet_seen c.loop-at.invariant c.loop-at-test.true e in
     omega (arith, p.0, p.1.inside)
 
-loop-again : tie.Need-loop-preserved invariant-loop decreases-loop
+loop-again : tie.Need-loop-at-preserved invariant-loop decreases-loop
 loop-again c =
-    let e = heard says_packet c.before.before.x.given.1 c.before.before.before.before.read-packet.ensures in
-    let p = packet_seen c.before.before.before.before.before.before.loop.invariant c.before.before.before.before.before.loop-test.true e in
-    rw c.look-packet.ensures p.1
+    let e = heard says_packet c.in-Got.is c.read_packet.ensures in
+    let p = packet_seen c.loop-at.invariant c.loop-at-test.true e in
+    rw c.look_packet-t.ensures p.1
 
-returns : tie.Need-returns invariant-loop decreases-loop
+returns : tie.Need-returns-in-Refused invariant-loop decreases-loop
 returns c =
-    let l = c.before.before.before.before.before in
-    let e = heard says_packet c.before.f.given.1 c.before.before.before.read-packet.ensures in
-    record { says = sym (rest_refused packet_at c.before.before.before.before.before.before.before.before.args.s.now look_packet l.loop.invariant.fuel l.loop.t l.loop.at c.before.before.before.before.loop-test.true l.loop.invariant.enough e) ∙ l.loop.invariant.all; within = tt }
+    let l = c in
+    let e = heard says_packet c.in-Refused.is c.read_packet.ensures in
+    record { says = sym (rest_refused packet_at c.args.s.now look_packet l.loop-at.invariant.fuel l.loop-at.t l.loop-at.at c.loop-at-test.true l.loop-at.invariant.enough e) ∙ l.loop-at.invariant.all; within = tt }
 
-returns-2 : tie.Need-returns-2 invariant-loop decreases-loop
+returns-2 : tie.Need-returns invariant-loop decreases-loop
 returns-2 c =
-    let l = c.before in
-    record { says = sym (rest_none packet_at c.before.before.before.before.args.s.now look_packet l.loop.invariant.fuel l.loop.t l.loop.at c.loop-test.false) ∙ l.loop.invariant.all; within = l.loop.invariant.within }
+    let l = c in
+    record { says = sym (rest_none packet_at c.args.s.now look_packet l.loop-at.invariant.fuel l.loop-at.t l.loop-at.at c.loop-at-test.false) ∙ l.loop-at.invariant.all; within = l.loop-at.invariant.within }
 
-pub see-packets-spec : {M : Type 1} → statement M
-see-packets-spec =
+pub see_packets_spec : {M : Type 1} → statement M
+see_packets_spec =
     tie.close
     (tie.spec
     invariant-loop

@@ -8,22 +8,22 @@ use borrow.Author.Rules.{rules}
 use Rattle.network.proofs.translate.from_network.Statement.{statement}
 use Rattle.network.proofs.translate.from_network.Tie as tie
 
-write-containers-requires : tie.Need-write-containers-requires
+write-containers-requires : tie.Need-write_containers-requires
 write-containers-requires c κs =
-    let s = c.before.before.before.before.before.before.before.args.s.now in
-    let e = from_seen s (heard says_sight c.before.before.t.given.1 c.before.before.before.before.see-packets.ensures.says) in
-    (subst (SightWithin s) c.before.before.t.given.1 c.before.before.before.before.see-packets.ensures.within, e.1, e.2)
+    let s = c.args.s.now in
+    let e = from_seen s (heard says_sight c.in-Whole.is c.see_packets.ensures.says) in
+    (subst (SightWithin s) c.in-Whole.is c.see_packets.ensures.within, e.1, e.2)
 
-returns : tie.Need-returns
+returns : tie.Need-returns-in-Whole
 returns c =
-    rw (from_seen c.before.before.before.before.before.before.before.before.before.before.args.s.now (heard says_sight c.before.before.before.before.before.t.given.1 c.before.before.before.before.before.before.before.see-packets.ensures.says)).0 c.before.before.write-containers.ensures
+    rw (from_seen c.args.s.now (heard says_sight c.in-Whole.is c.see_packets.ensures.says)).0 c.write_containers.ensures
 
-returns-2 : tie.Need-returns-2
+returns-2 : tie.Need-returns-in-Refused
 returns-2 c =
-    refusal (from_refused c.before.before.before.before.before.before.args.s.now (heard says_sight c.before.f.given.1 c.before.before.before.see-packets.ensures.says))
+    refusal (from_refused c.args.s.now (heard says_sight c.in-Refused.is c.see_packets.ensures.says))
 
-pub from-network-spec : {M : Type 1} → statement M
-from-network-spec =
+pub from_network_spec : {M : Type 1} → statement M
+from_network_spec =
     tie.close
     (tie.spec
     (λ c κs. search rules)

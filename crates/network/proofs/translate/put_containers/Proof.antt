@@ -15,29 +15,29 @@ use borrow.Author.Rules.{rules}
 use Rattle.network.proofs.translate.put_containers.Statement.{statement}
 use Rattle.network.proofs.translate.put_containers.Tie as tie
 
-put-joined-requires : tie.Need-put-joined-requires
+put-joined-requires : tie.Need-put_joined-b-requires
 put-joined-requires c κs =
-    let a = c.before.before.before.before.before.before.before.before.before.args in
+    let a = c.args in
     let s = a.s.now in
-    let p = c.before.before.before.put-container.ensures in
-    (c.before.before.before.before.before.before.before.before.before.requires.1, c.before.before.before.before.before.before.before.before.before.requires.2, omega (arith, c.before.before.before.before.before.before.before.before.before.requires.3, p.place, long p, container_length 1 a.t.code a.t.number (part_of s a.t.params), part_length s a.t.params c.before.before.before.before.before.before.before.before.before.requires.0.params))
+    let p = c.put_container-a.ensures in
+    (c.requires.1, c.requires.2, omega (arith, c.requires.3, p.place, long p, container_length 1 a.t.code a.t.number (part_of s a.t.params), part_length s a.t.params c.requires.0.params))
 
-put-container-requires-2 : tie.Need-put-container-requires-2
+put-container-requires-2 : tie.Need-put_container-requires
 put-container-requires-2 c κs =
-    let a = c.before.before.before.before.before.before.before.before.before.before.before.before.before.args in
+    let a = c.args in
     let s = a.s.now in
-    let p = c.before.before.before.before.before.before.before.put-container.ensures in
-    let q = c.before.before.before.put-joined.ensures in
-    let l : pick a.t.has (12 + length (data_of s)) 0 ≡ pick a.t.has (12 + a.t.sum) 0 = rw c.before.before.before.before.before.before.before.before.before.before.before.before.before.requires.2 in
-    (c.before.before.before.before.before.before.before.before.before.before.before.before.before.requires.0.results, omega (arith, c.before.before.before.before.before.before.before.before.before.before.before.before.before.requires.3, p.place, q.place, long (then p q), l, data_container_length a.t.code a.t.number a.t.has (data_of s), container_length 1 a.t.code a.t.number (part_of s a.t.params), part_length s a.t.params c.before.before.before.before.before.before.before.before.before.before.before.before.before.requires.0.params))
+    let p = c.put_container-a.ensures in
+    let q = c.put_joined-b.ensures in
+    let l : pick a.t.has (12 + length (data_of s)) 0 ≡ pick a.t.has (12 + a.t.sum) 0 = rw c.requires.2 in
+    (c.requires.0.results, omega (arith, c.requires.3, p.place, q.place, long (then p q), l, data_container_length a.t.code a.t.number a.t.has (data_of s), container_length 1 a.t.code a.t.number (part_of s a.t.params), part_length s a.t.params c.requires.0.params))
 
 returns : tie.Need-returns
 unfolding containers_word
 returns c =
-    then (then c.before.before.before.before.before.before.before.before.before.before.put-container.ensures c.before.before.before.before.before.before.put-joined.ensures) c.before.before.put-container2.ensures
+    then (then c.put_container-a.ensures c.put_joined-b.ensures) c.put_container.ensures
 
-pub put-containers-spec : {M : Type 1} → statement M
-put-containers-spec =
+pub put_containers_spec : {M : Type 1} → statement M
+put_containers_spec =
     tie.close
     (tie.spec
     (λ c κs. search rules)

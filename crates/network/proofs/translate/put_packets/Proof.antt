@@ -14,39 +14,39 @@ use borrow.Author.Rules.{rules}
 use Rattle.network.proofs.translate.put_packets.Statement.{statement}
 use Rattle.network.proofs.translate.put_packets.Tie as tie
 
-put-packet-requires : tie.Need-put-packet-requires
+put-packet-requires : tie.Need-put_packet-a-requires
 unfolding phase_size code_size total_size
 put-packet-requires c κs =
-    (c.before.before.before.before.before.before.before.requires.0.params, omega (arith, c.before.before.before.before.before.before.before.requires.1))
+    (c.requires.0.params, omega (arith, c.requires.1))
 
-put-data-requires : tie.Need-put-data-requires
+put-data-requires : tie.Need-put_data-b-requires
 unfolding phase_size code_size total_size
 put-data-requires c κs =
-    let a = c.before.before.before.before.before.before.before.before.before.before.before.args in
+    let a = c.args in
     let s = a.s.now in
-    let w = c.before.before.before.before.before.before.before.before.before.before.before.requires.0 in
-    let p = c.before.before.before.put-packet.ensures in
-    (w.payload, omega (arith, c.before.before.before.before.before.before.before.before.before.before.before.requires.1, p.place, long p, packet_length 6 c.before.before.before.before.phase-of.result a.t.code a.t.number 0 (part_of s a.t.params), part_length s a.t.params w.params))
+    let w = c.requires.0 in
+    let p = c.put_packet-a.ensures in
+    (w.payload, omega (arith, c.requires.1, p.place, long p, packet_length 6 c.phase_of.result a.t.code a.t.number 0 (part_of s a.t.params), part_length s a.t.params w.params))
 
-put-packet-requires-2 : tie.Need-put-packet-requires-2
+put-packet-requires-2 : tie.Need-put_packet-requires
 unfolding phase_size code_size total_size
 put-packet-requires-2 c κs =
-    let a = c.before.before.before.before.before.before.before.before.before.before.before.before.before.before.before.args in
+    let a = c.args in
     let s = a.s.now in
-    let w = c.before.before.before.before.before.before.before.before.before.before.before.before.before.before.before.requires.0 in
-    let p = then c.before.before.before.before.before.before.before.put-packet.ensures c.before.before.before.put-data.ensures in
+    let w = c.requires.0 in
+    let p = then c.put_packet-a.ensures c.put_data-b.ensures in
     let l : pick a.t.has (32 + length (part_of s a.t.payload)) 0 ≡ pick a.t.has (32 + a.t.payload.count) 0 = rw (part_length s a.t.payload w.payload) in
-    (w.results, omega (arith, c.before.before.before.before.before.before.before.before.before.before.before.before.before.before.before.requires.1, c.before.before.before.put-data.ensures.place, long p, c.before.before.before.before.before.before.before.put-packet.ensures.place, l, data_packets_length a.t.number a.t.has (part_of s a.t.payload), packet_length 6 c.before.before.before.before.before.before.before.before.phase-of.result a.t.code a.t.number 0 (part_of s a.t.params), part_length s a.t.params w.params))
+    (w.results, omega (arith, c.requires.1, c.put_data-b.ensures.place, long p, c.put_packet-a.ensures.place, l, data_packets_length a.t.number a.t.has (part_of s a.t.payload), packet_length 6 c.phase_of.result a.t.code a.t.number 0 (part_of s a.t.params), part_length s a.t.params w.params))
 
 returns : tie.Need-returns
 unfolding tidy_word
 returns c =
-    let a = c.before.before.before.before.before.before.before.before.before.before.before.before.before.before.before.before.before.before.args in
+    let a = c.args in
     let s = a.s.now in
-    rw (phase-if a.d a.t.has (part_of s a.t.payload), ← c.before.before.before.before.before.before.before.before.before.before.before.phase-of.ensures) (then (then c.before.before.before.before.before.before.before.before.before.before.put-packet.ensures c.before.before.before.before.before.before.put-data.ensures) c.before.before.put-packet2.ensures)
+    rw (phase-if a.d a.t.has (part_of s a.t.payload), ← c.phase_of.ensures) (then (then c.put_packet-a.ensures c.put_data-b.ensures) c.put_packet.ensures)
 
-pub put-packets-spec : {M : Type 1} → statement M
-put-packets-spec =
+pub put_packets_spec : {M : Type 1} → statement M
+put_packets_spec =
     tie.close
     (tie.spec
     (λ c κs. search rules)

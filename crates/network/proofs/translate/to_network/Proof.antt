@@ -8,20 +8,20 @@ use borrow.Author.Rules.{rules}
 use Rattle.network.proofs.translate.to_network.Statement.{statement}
 use Rattle.network.proofs.translate.to_network.Tie as tie
 
-write-packets-requires : tie.Need-write-packets-requires
+write-packets-requires : tie.Need-write_packets-requires
 write-packets-requires c κs =
-    subst (SightWithin c.before.before.before.before.before.before.before.args.s.now) c.before.before.t.given.1 c.before.before.before.before.see-containers.ensures.within
+    subst (SightWithin c.args.s.now) c.in-Whole.is c.see_containers.ensures.within
 
-returns : tie.Need-returns
+returns : tie.Need-returns-in-Whole
 returns c =
-    rw (to_seen c.before.before.before.before.before.before.before.before.before.before.args.d c.before.before.before.before.before.before.before.before.before.before.args.s.now (heard says_sight c.before.before.before.before.before.t.given.1 c.before.before.before.before.before.before.before.see-containers.ensures.says)) c.before.before.write-packets.ensures
+    rw (to_seen c.args.d c.args.s.now (heard says_sight c.in-Whole.is c.see_containers.ensures.says)) c.write_packets.ensures
 
-returns-2 : tie.Need-returns-2
+returns-2 : tie.Need-returns-in-Refused
 returns-2 c =
-    refusal (to_refused c.before.before.before.before.before.before.args.d c.before.before.before.before.before.before.args.s.now (heard says_sight c.before.f.given.1 c.before.before.before.see-containers.ensures.says))
+    refusal (to_refused c.args.d c.args.s.now (heard says_sight c.in-Refused.is c.see_containers.ensures.says))
 
-pub to-network-spec : {M : Type 1} → statement M
-to-network-spec =
+pub to_network_spec : {M : Type 1} → statement M
+to_network_spec =
     tie.close
     (tie.spec
     (λ c κs. search rules)

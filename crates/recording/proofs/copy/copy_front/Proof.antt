@@ -16,17 +16,17 @@ use Rattle.recording.proofs.copy.copy_front.Tie as tie
 part-long : (s : List ℕ) {r : Swept} → Sweeps s r → r.end ≡ length (take r.end s)
 part-long s w = rw w.end (accepted _ (left_ends (take (whole_of s) s)) (sym w.front))
 
-slice-aggregate-copy-swept : tie.Need-slice-aggregate-copy-swept
-slice-aggregate-copy-swept c = part-long c.before.before.before.before.before.args.s.now c.before.before.sweep.ensures
+slice-aggregate-copy-swept : tie.Need-slice_bounds-copy_swept-end
+slice-aggregate-copy-swept c = part-long c.args.s.now c.sweep-swept.ensures
 
-copy-swept-requires : tie.Need-copy-swept-requires
+copy-swept-requires : tie.Need-copy_swept-copied-requires
 copy-swept-requires c κs =
-    let s = c.before.before.before.before.before.before.args.s.now in
-    let w = c.before.before.before.sweep.ensures in
+    let s = c.args.s.now in
+    let w = c.sweep-swept.ensures in
     rw (← part-long s w) (rw w.end w.front)
 
 returns : tie.Need-returns
-returns c = let w = c.before.before.before.before.before.before.sweep.ensures in record { used = w.end; copies = rw w.end at c.before.before.copy-swept.ensures }
+returns c = let w = c.sweep-swept.ensures in record { used = w.end; copies = rw w.end at c.copy_swept-copied.ensures }
 
-pub copy-front-spec : {M : Type 1} → statement M
-copy-front-spec = tie.close (tie.spec (λ c κs. search rules) slice-aggregate-copy-swept copy-swept-requires (λ c. search rules) returns)
+pub copy_front_spec : {M : Type 1} → statement M
+copy_front_spec = tie.close (tie.spec (λ c κs. search rules) slice-aggregate-copy-swept copy-swept-requires (λ c. search rules) returns)

@@ -9,16 +9,16 @@ use borrow.Author.Rules.{rules}
 use Rattle.recording.proofs.copy.copy_records.Statement.{statement}
 use Rattle.recording.proofs.copy.copy_records.Tie as tie
 
-copy-swept-requires : tie.Need-copy-swept-requires
+copy-swept-requires : tie.Need-copy_swept-requires
 copy-swept-requires c κs =
-    let w = c.before.before.before.before.sweep in
-    let e = heard (says_stop w.result.left w.result.end) c.before.enum_told.given.1 w.ensures.whole in
-    sym e ∙ ap (got w.result.left) (accepted _ (left_ends c.before.before.before.before.before.before.before.args.s.now) e)
+    let w = c.sweep-swept in
+    let e = heard (says_stop w.result.left w.result.end) c.in-End.is w.ensures.whole in
+    sym e ∙ ap (got w.result.left) (accepted _ (left_ends c.args.s.now) e)
 
-returns-2 : tie.Need-returns-2
+returns-2 : tie.Need-returns-in-Refused
 returns-2 c =
-    let w = c.before.before.before.before.sweep in
-    copies_refused c.before.before.before.before.before.before.before.args.s.now c.before.before.before.before.before.before.before.args.out.now (heard (says_stop w.result.left w.result.end) c.before.stop.given.1 w.ensures.whole)
+    let w = c.sweep-swept in
+    copies_refused c.args.s.now c.args.out.now (heard (says_stop w.result.left w.result.end) c.in-Refused.is w.ensures.whole)
 
-pub copy-records-spec : {M : Type 1} → statement M
-copy-records-spec = tie.close (tie.spec (λ c κs. search rules) (λ c. search rules) copy-swept-requires (λ c. search rules) (λ c. search rules) (λ c. c.before.before.copy-swept.ensures) returns-2)
+pub copy_records_spec : {M : Type 1} → statement M
+copy_records_spec = tie.close (tie.spec (λ c κs. search rules) (λ c. search rules) copy-swept-requires (λ c. search rules) (λ c. search rules) (λ c. c.copy_swept.ensures) returns-2)

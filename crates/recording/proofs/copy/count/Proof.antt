@@ -5,13 +5,13 @@ use borrow.Author.Rules.{rules}
 use Rattle.recording.proofs.copy.count.Statement.{statement}
 use Rattle.recording.proofs.copy.count.Tie as tie
 
-returns : tie.Need-returns
+returns : tie.Need-returns-then-is_written
 unfolding counted
-returns c = rw (sym c.before.is-written.ensures ∙ c.if1.true)
+returns c = rw (sym c.is_written.ensures ∙ c.if-is_written.true)
 
-returns-2 : tie.Need-returns-2
+returns-2 : tie.Need-returns
 unfolding counted
-returns-2 c = rw (sym c.before.before.before.is-written.ensures ∙ c.before.before.if1.false)
+returns-2 c = rw (sym c.is_written.ensures ∙ c.if-is_written.false)
 
 pub count_spec : {M : Type 1} → statement M
 count_spec =

@@ -11,45 +11,45 @@ use borrow.Author.Rules.{rules}
 use Rattle.recording.proofs.copy.put_copied.Statement.{statement}
 use Rattle.recording.proofs.copy.put_copied.Tie as tie
 
-abbrev invariant-loop : tie.invariant-loop
+abbrev invariant-loop : tie.invariant-loop-at
 invariant-loop s out₀ at₀ o₀ out at o = Going s out₀ out at o
 
-abbrev decreases-loop : tie.decreases-loop
+abbrev decreases-loop : tie.decreases-loop-at
 decreases-loop s out₀ at₀ o₀ out at o = length s - at
 
-loop-holds : tie.Need-loop-init invariant-loop decreases-loop
-loop-holds c = going c.before.before.args.s.now c.before.before.args.out.now c.before.before.requires.0 c.before.before.requires.1
+loop-holds : tie.Need-loop-at-init invariant-loop decreases-loop
+loop-holds c = going c.args.s.now c.args.out.now c.requires.0 c.requires.1
 
-add-put-kept : tie.Need-overflow-add-put-kept invariant-loop decreases-loop
+add-put-kept : tie.Need-overflow_add-h invariant-loop decreases-loop
 add-put-kept c =
-    let l = c.before.before.before.before.before.before in
-    let e = heard says_head c.before.before.h.given.1 c.before.before.before.before.read_head.ensures in
-    let p = accepted _ (head_placed l.before.before.before.args.s.now l.loop.at) e in
+    let l = c in
+    let e = heard says_head c.in-Got.is c.read_head.ensures in
+    let p = accepted _ (head_placed l.args.s.now l.loop-at.at) e in
     record { fits = omega (arith, p.1, p.2) }
 
-loop-less : tie.Need-loop-smaller invariant-loop decreases-loop
+loop-less : tie.Need-loop-at-smaller invariant-loop decreases-loop
 loop-less c =
-    let l = c.before.before.before.before.before.before.before.before.before.before in
-    let e = heard says_head c.before.before.before.before.before.before.h.given.1 c.before.before.before.before.before.before.before.before.read_head.ensures in
-    let p = accepted _ (head_placed l.before.before.before.args.s.now l.loop.at) e in
+    let l = c in
+    let e = heard says_head c.in-Got.is c.read_head.ensures in
+    let p = accepted _ (head_placed l.args.s.now l.loop-at.at) e in
     omega (arith, p.1, p.2)
 
-loop-again : tie.Need-loop-preserved invariant-loop decreases-loop
+loop-again : tie.Need-loop-at-preserved invariant-loop decreases-loop
 loop-again c =
-    let l = c.before.before.before.before.before.before.before.before.before.before in
-    let e = heard says_head c.before.before.before.before.before.before.h.given.1 c.before.before.before.before.before.before.before.before.read_head.ensures in
-    going_on l.loop.invariant c.before.before.before.before.before.before.before.before.before.loop-test.true e c.before.before.put-kept.ensures
+    let l = c in
+    let e = heard says_head c.in-Got.is c.read_head.ensures in
+    going_on l.loop-at.invariant c.loop-at-test.true e c.put_kept-o.ensures
 
-returns : tie.Need-returns invariant-loop decreases-loop
+returns : tie.Need-returns-in-Refused invariant-loop decreases-loop
 returns c =
-    let l = c.before.before.before.before in
-    absurd (kept_stops l.before.before.before.args.s.now l.loop.at c.before.before.before.loop-test.true l.loop.invariant.all (heard says_head c.enum_told.given.1 c.before.before.read_head.ensures))
+    let l = c in
+    absurd (kept_stops l.args.s.now l.loop-at.at c.loop-at-test.true l.loop-at.invariant.all (heard says_head c.in-Refused.is c.read_head.ensures))
 
-returns-2 : tie.Need-returns-2 invariant-loop decreases-loop
-returns-2 c = going_out c.before.loop.invariant c.loop-test.false
+returns-2 : tie.Need-returns invariant-loop decreases-loop
+returns-2 c = going_out c.loop-at.invariant c.loop-at-test.false
 
-pub put-copied-spec : {M : Type 1} → statement M
-put-copied-spec =
+pub put_copied_spec : {M : Type 1} → statement M
+put_copied_spec =
     tie.close
     (tie.spec
     invariant-loop

@@ -27,45 +27,45 @@ record Going (s : List ℕ) (at : ℕ) (l : Left) : Type 0 where
   pub less : l.bytes ≤ at
   pub within : at ≤ length s
 
-abbrev invariant-loop : tie.invariant-loop
+abbrev invariant-loop : tie.invariant-loop-at
 invariant-loop s at₀ left₀ at left = Going s at left
 
-abbrev decreases-loop : tie.decreases-loop
+abbrev decreases-loop : tie.decreases-loop-at
 decreases-loop s at₀ left₀ at left = length s - at
 
-loop-holds : tie.Need-loop-init invariant-loop decreases-loop
+loop-holds : tie.Need-loop-at-init invariant-loop decreases-loop
 unfolding left_out left_by means row_of row_from whole_of
 loop-holds c = record { whole = refl; front = refl; rests = refl; fewer = omega arith; less = omega arith; within = omega arith }
 
-count-requires : tie.Need-count-requires invariant-loop decreases-loop
+count-requires : tie.Need-count-left-requires invariant-loop decreases-loop
 count-requires c κs =
-    let l = c.before.before.before.before.before in
-    let e = heard says_record c.before.x.given.1 c.before.before.before.read-record-at.ensures in
-    let p = accepted _ (record_placed l.before.before.args.s.now l.loop.at) e in
-    (l.loop.invariant.fewer, omega (arith, p.till, p.within, l.loop.invariant.less))
+    let l = c in
+    let e = heard says_record c.in-Got.is c.read_record_at.ensures in
+    let p = accepted _ (record_placed l.args.s.now l.loop-at.at) e in
+    (l.loop-at.invariant.fewer, omega (arith, p.till, p.within, l.loop-at.invariant.less))
 
-loop-less : tie.Need-loop-smaller invariant-loop decreases-loop
+loop-less : tie.Need-loop-at-smaller invariant-loop decreases-loop
 loop-less c =
-    let l = c.before.before.before.before.before.before in
-    let e = heard says_record c.before.before.x.given.1 c.before.before.before.before.read-record-at.ensures in
-    let p = accepted _ (record_placed l.before.before.args.s.now l.loop.at) e in
+    let l = c in
+    let e = heard says_record c.in-Got.is c.read_record_at.ensures in
+    let p = accepted _ (record_placed l.args.s.now l.loop-at.at) e in
     omega (arith, p.till, p.within)
 
-loop-again : tie.Need-loop-preserved invariant-loop decreases-loop
+loop-again : tie.Need-loop-at-preserved invariant-loop decreases-loop
 loop-again c =
-    let l = c.before.before.before.before.before.before in
-    let s = l.before.before.args.s.now in
-    let g = l.loop.invariant in
-    let x = c.before.before.x.given.0.0 in
-    let e = heard says_record c.before.before.x.given.1 c.before.before.before.before.read-record-at.ensures in
-    let more = c.before.before.before.before.before.loop-test.true in
-    let p = accepted _ (record_placed s l.loop.at) e in
-    let least = counted_least l.loop.left x.kind x.body.count l.loop.at g.fewer g.less in
-    rw c.count.ensures
+    let l = c in
+    let s = l.args.s.now in
+    let g = l.loop-at.invariant in
+    let x = c.in-Got.x in
+    let e = heard says_record c.in-Got.is c.read_record_at.ensures in
+    let more = c.loop-at-test.true in
+    let p = accepted _ (record_placed s l.loop-at.at) e in
+    let least = counted_least l.loop-at.left x.kind x.body.count l.loop-at.at g.fewer g.less in
+    rw c.count-left.ensures
     (record {
-      whole = sym (whole_got s l.loop.at more e) ∙ g.whole;
-      front = front_more s l.loop.at l.loop.left g.front e;
-      rests = sym (left_turn s l.loop.at l.loop.left more e) ∙ g.rests;
+      whole = sym (whole_got s l.loop-at.at more e) ∙ g.whole;
+      front = front_more s l.loop-at.at l.loop-at.left g.front e;
+      rests = sym (left_turn s l.loop-at.at l.loop-at.left more e) ∙ g.rests;
       fewer = least.0;
       less = omega (arith, least.1, p.till);
       within = p.within;
@@ -75,24 +75,24 @@ loop-again c =
 found : {s : List ℕ} {at : ℕ} {l : Left} → Going s at l → whole_rest s at ≡ at → (at ≡ whole_of s) × (left_out (take (whole_of s) s) ≡ got l (whole_of s))
 found {s} {at} {l} g e = let same : at ≡ whole_of s = sym e ∙ g.whole in (same, rw (← same) g.front)
 
-returns : tie.Need-returns invariant-loop decreases-loop
+returns : tie.Need-returns-in-Refused invariant-loop decreases-loop
 returns c =
-    let l = c.before.before.before.before.before in
-    let s = l.before.before.args.s.now in
-    let more = c.before.before.before.before.loop-test.true in
-    let e = heard says_record c.before.f.given.1 c.before.before.before.read-record-at.ensures in
-    let is = found l.loop.invariant (whole_refused s l.loop.at more e) in
-    record { end = is.0; front = is.1; whole = sym (left_refused s l.loop.at l.loop.left more e) ∙ l.loop.invariant.rests }
+    let l = c in
+    let s = l.args.s.now in
+    let more = c.loop-at-test.true in
+    let e = heard says_record c.in-Refused.is c.read_record_at.ensures in
+    let is = found l.loop-at.invariant (whole_refused s l.loop-at.at more e) in
+    record { end = is.0; front = is.1; whole = sym (left_refused s l.loop-at.at l.loop-at.left more e) ∙ l.loop-at.invariant.rests }
 
-returns-2 : tie.Need-returns-2 invariant-loop decreases-loop
+returns-2 : tie.Need-returns invariant-loop decreases-loop
 returns-2 c =
-    let l = c.before in
-    let s = l.before.before.args.s.now in
-    let is = found l.loop.invariant (whole_none s l.loop.at c.loop-test.false) in
-    record { end = is.0; front = is.1; whole = sym (left_end s l.loop.at l.loop.left c.loop-test.false) ∙ l.loop.invariant.rests }
+    let l = c in
+    let s = l.args.s.now in
+    let is = found l.loop-at.invariant (whole_none s l.loop-at.at c.loop-at-test.false) in
+    record { end = is.0; front = is.1; whole = sym (left_end s l.loop-at.at l.loop-at.left c.loop-at-test.false) ∙ l.loop-at.invariant.rests }
 
-pub sweep-spec : {M : Type 1} → statement M
-sweep-spec =
+pub sweep_spec : {M : Type 1} → statement M
+sweep_spec =
     tie.close
     (tie.spec
     invariant-loop

@@ -39,61 +39,61 @@ all-counted : (k n : ℕ) → plus k (got [] n) ≡ got k n
 unfolding means
 all-counted k n = ap (λ m. got m n) (omega arith)
 
-abbrev invariant-loop : tie.invariant-loop
+abbrev invariant-loop : tie.invariant-loop-at
 invariant-loop s at₀ records₀ at records = Going s at records
 
-abbrev decreases-loop : tie.decreases-loop
+abbrev decreases-loop : tie.decreases-loop-at
 decreases-loop s at₀ records₀ at records = length s - at
 
-loop-holds : tie.Need-loop-init invariant-loop decreases-loop
+loop-holds : tie.Need-loop-at-init invariant-loop decreases-loop
 unfolding row_of
 loop-holds c = record { row = none_yet _; few = omega arith; within = omega arith }
 
-add-records : tie.Need-overflow-add-records invariant-loop decreases-loop
+add-records : tie.Need-overflow_add-records invariant-loop decreases-loop
 add-records c =
-    let l = c.before.before.before.before.before in
-    let e = heard says_record c.before.next.given.1 c.before.before.before.read-record-at.ensures in
-    let p = accepted _ (record_placed l.before.before.args.s.now l.loop.at) e in
-    omega (arith, l.loop.invariant.few, p.till, p.within)
+    let l = c in
+    let e = heard says_record c.in-Got.is c.read_record_at.ensures in
+    let p = accepted _ (record_placed l.args.s.now l.loop-at.at) e in
+    omega (arith, l.loop-at.invariant.few, p.till, p.within)
 
-loop-less : tie.Need-loop-smaller invariant-loop decreases-loop
+loop-less : tie.Need-loop-at-smaller invariant-loop decreases-loop
 loop-less c =
-    let l = c.before.before.before.before.before in
-    let e = heard says_record c.before.next.given.1 c.before.before.before.read-record-at.ensures in
-    let p = accepted _ (record_placed l.before.before.args.s.now l.loop.at) e in
+    let l = c in
+    let e = heard says_record c.in-Got.is c.read_record_at.ensures in
+    let p = accepted _ (record_placed l.args.s.now l.loop-at.at) e in
     omega (arith, p.till, p.within)
 
-loop-again : tie.Need-loop-preserved invariant-loop decreases-loop
+loop-again : tie.Need-loop-at-preserved invariant-loop decreases-loop
 loop-again c =
-    let l = c.before.before.before.before.before in
-    let s = l.before.before.args.s.now in
-    let x = c.before.next.given.0.0 in
-    let e = heard says_record c.before.next.given.1 c.before.before.before.read-record-at.ensures in
-    let more = c.before.before.before.before.loop-test.true in
-    let p = accepted _ (record_placed s l.loop.at) e in
+    let l = c in
+    let s = l.args.s.now in
+    let x = c.in-Got.field-0 in
+    let e = heard says_record c.in-Got.is c.read_record_at.ensures in
+    let more = c.loop-at-test.true in
+    let p = accepted _ (record_placed s l.loop-at.at) e in
     record {
-      row = sym (ap (plus l.loop.records) (row_got s l.loop.at more e) ∙ one_more l.loop.records (record_from x) (rest s c.before.next.given.0.1.0.at)) ∙ l.loop.invariant.row;
-      few = omega (arith, l.loop.invariant.few, p.till);
+      row = sym (ap (plus l.loop-at.records) (row_got s l.loop-at.at more e) ∙ one_more l.loop-at.records (record_from x) (rest s c.in-Got.next.at)) ∙ l.loop-at.invariant.row;
+      few = omega (arith, l.loop-at.invariant.few, p.till);
       within = p.within;
     }
 
-returns : tie.Need-returns invariant-loop decreases-loop
+returns : tie.Need-returns-in-Refused invariant-loop decreases-loop
 unfolding means
 returns c =
-    let l = c.before.before.before.before.before in
-    let s = l.before.before.args.s.now in
-    let e = heard says_record c.before.f.given.1 c.before.before.before.read-record-at.ensures in
-    let more = c.before.before.before.before.loop-test.true in
-    sym (ap (plus l.loop.records) (row_refused s l.loop.at more e)) ∙ l.loop.invariant.row
+    let l = c in
+    let s = l.args.s.now in
+    let e = heard says_record c.in-Refused.is c.read_record_at.ensures in
+    let more = c.loop-at-test.true in
+    sym (ap (plus l.loop-at.records) (row_refused s l.loop-at.at more e)) ∙ l.loop-at.invariant.row
 
-returns-2 : tie.Need-returns-2 invariant-loop decreases-loop
+returns-2 : tie.Need-returns invariant-loop decreases-loop
 returns-2 c =
-    let l = c.before in
-    let s = l.before.before.args.s.now in
-    sym (ap (plus l.loop.records) (row_none s l.loop.at c.loop-test.false) ∙ all-counted l.loop.records l.loop.at) ∙ l.loop.invariant.row
+    let l = c in
+    let s = l.args.s.now in
+    sym (ap (plus l.loop-at.records) (row_none s l.loop-at.at c.loop-at-test.false) ∙ all-counted l.loop-at.records l.loop-at.at) ∙ l.loop-at.invariant.row
 
-pub read-recording-spec : {M : Type 1} → statement M
-read-recording-spec =
+pub read_recording_spec : {M : Type 1} → statement M
+read_recording_spec =
     tie.close
     (tie.spec
     invariant-loop

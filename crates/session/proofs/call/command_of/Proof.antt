@@ -4,10 +4,10 @@ use Rattle.session.proofs.call.command_of.Statement.{statement}
 use Rattle.session.proofs.call.command_of.Tie as tie
 
 returns : tie.Need-returns
-returns c = rw (c.before.before.before.before.param.ensures, c.before.before.before.param2.ensures, c.before.before.param3.ensures, c.before.param4.ensures, c.param5.ensures)
+returns c = rw (c.param.ensures, c.param-2.ensures, c.param-3.ensures, c.param-4.ensures, c.param-5.ensures)
 
-pub command-of-spec : {M : Type 1} → statement M
-command-of-spec =
+pub command_of_spec : {M : Type 1} → statement M
+command_of_spec =
     tie.close
     (tie.spec
     (λ c κs. search rules)

@@ -3,5 +3,5 @@ use Rattle.std.proofs.Common.{eq-eqb, ne_eqb}
 use Rattle.session.proofs.lack.is_cut.Statement.{statement}
 use Rattle.session.proofs.lack.is_cut.Tie as tie
 
-pub is-cut-spec : {M : Type 1} → statement M
-is-cut-spec = tie.close (tie.spec (λ c. simp (eq-eqb _ _ c.if1.true)) (λ c. simp (ne_eqb _ _ c.before.if1.false)))
+pub is_cut_spec : {M : Type 1} → statement M
+is_cut_spec = tie.close (tie.spec (λ c. simp (eq-eqb _ _ c.if-why-eq-END.true)) (λ c. simp (ne_eqb _ _ c.if-why-eq-END.false)))

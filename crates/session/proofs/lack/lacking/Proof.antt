@@ -8,31 +8,31 @@ use Rattle.session.proofs.lack.lacking.Statement.{statement}
 use Rattle.session.proofs.lack.lacking.Tie as tie
 
 -- the bytes from there on, as many as the code counts
-size : (c : tie.After-shared-slice-known) → length (drop c.before.args.at c.before.args.s.now) ≡ length c.before.args.s.now - c.before.args.at
-size c = length-drop c.before.args.at c.before.args.s.now
+size : (c : tie.After-shared_slice_known-1) → length (drop c.args.at c.args.s.now) ≡ length c.args.s.now - c.args.at
+size c = length-drop c.args.at c.args.s.now
 
-abbrev all_bytes : (c : tie.After-shared-slice-known) → Bytes c.before.args.s.now
-all_bytes c = bytes_of c.before.args.s.now (λ i. (c.shared-slice-known.given i).fits)
+abbrev all_bytes : (c : tie.After-shared_slice_known-1) → Bytes c.args.s.now
+all_bytes c = bytes_of c.args.s.now (λ i. (c.shared_slice_known-1.given i).fits)
 
-returns : tie.Need-returns
+returns : tie.Need-returns-then-left-lt-KIND_END
 returns c =
-    let b = c.before.before in
-    rw (← size c.before) (stop_lacks b.args.number b.args.s.now b.requires (all_bytes c.before) (head (omega (arith, size c.before, c.if1.true))))
+    let b = c in
+    rw (← size c.before) (stop_lacks b.args.number b.args.s.now b.requires (all_bytes c.before) (head (omega (arith, size c.before, c.if-left-lt-KIND_END.true))))
 
-rest-lacks-requires : tie.Need-rest-lacks-requires
+rest-lacks-requires : tie.Need-rest_lacks-requires
 rest-lacks-requires c κs =
-    let b = c.before.before.before.before in
-    stop_cut b.args.number b.args.s.now b.requires (omega (arith, size c.before.before.before, c.before.before.if1.false)) c.before.is_cut.ensures c.if2.true
+    let b = c in
+    stop_cut b.args.number b.args.s.now b.requires (omega (arith, size c.before.before.before, c.if-left-lt-KIND_END.false)) c.is_cut.ensures c.if-is_cut.true
 
-returns-2 : tie.Need-returns-2
+returns-2 : tie.Need-returns-then-is_cut
 returns-2 c =
-    let b = c.before.before.before.before.before in
-    stop_lacks b.args.number b.args.s.now b.requires (all_bytes c.before.before.before.before) c.rest-lacks.ensures
+    let b = c in
+    stop_lacks b.args.number b.args.s.now b.requires (all_bytes c.before.before.before.before) c.rest_lacks.ensures
 
-returns-3 : tie.Need-returns-3
+returns-3 : tie.Need-returns
 returns-3 c =
-    let b = c.before.before.before.before in
-    stop_closed b.args.number b.args.s.now b.requires (omega (arith, size c.before.before.before, c.before.before.if1.false)) c.before.is_cut.ensures c.if2.false
+    let b = c in
+    stop_closed b.args.number b.args.s.now b.requires (omega (arith, size c.before.before.before, c.if-left-lt-KIND_END.false)) c.is_cut.ensures c.if-is_cut.false
 
-pub lacking-spec : {M : Type 1} → statement M
-lacking-spec = tie.close (tie.spec (λ c. stop_within _ _ c.before.requires) (λ c. search rules) returns (λ c κs. search rules) rest-lacks-requires returns-2 returns-3)
+pub lacking_spec : {M : Type 1} → statement M
+lacking_spec = tie.close (tie.spec (λ c. stop_within _ _ c.requires) (λ c. search rules) returns (λ c κs. search rules) rest-lacks-requires returns-2 returns-3)

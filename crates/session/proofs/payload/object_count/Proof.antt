@@ -7,23 +7,23 @@ use Rattle.session.proofs.Filled.{filled, followed, unread}
 use Rattle.session.proofs.payload.object_count.Statement.{statement}
 use Rattle.session.proofs.payload.object_count.Tie as tie
 
-returns : tie.Need-returns
+returns : tie.Need-returns-in-Till
 returns c =
-    let x = c.before.before.before.before.before in
-    let s = x.before.before.before.before.args.s.now in
-    filled (num_at 4) s (heard says_u32 x.n.given.1 x.before.before.u32.ensures) (heard says_span c.before.end2.given.1 c.before.before.before.end.ensures)
+    let x = c in
+    let s = x.args.s.now in
+    filled (num_at 4) s (heard says_u32 x.in-Got.is x.u32.ensures) (heard says_span c.in-Till.is c.end.ensures)
 
-returns-2 : tie.Need-returns-2
+returns-2 : tie.Need-returns-in-Refused-end
 returns-2 c =
-    let x = c.before.before.before.before.before in
-    let s = x.before.before.before.before.args.s.now in
-    followed (num_at 4) s (heard says_u32 x.n.given.1 x.before.before.u32.ensures) (heard says_span c.before.f.given.1 c.before.before.before.end.ensures)
+    let x = c in
+    let s = x.args.s.now in
+    followed (num_at 4) s (heard says_u32 x.in-Got.is x.u32.ensures) (heard says_span c.in-Refused-end.is c.end.ensures)
 
-returns-3 : tie.Need-returns-3
-returns-3 c = unread (num_at 4) c.before.before.before.before.before.args.s.now (heard says_u32 c.before.f2.given.1 c.before.before.before.u32.ensures)
+returns-3 : tie.Need-returns-in-Refused
+returns-3 c = unread (num_at 4) c.args.s.now (heard says_u32 c.in-Refused.is c.u32.ensures)
 
-pub object-count-spec : {M : Type 1} → statement M
-object-count-spec =
+pub object_count_spec : {M : Type 1} → statement M
+object_count_spec =
     tie.close
     (tie.spec
     (λ c κs. search rules)

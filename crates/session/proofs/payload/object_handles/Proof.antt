@@ -7,23 +7,23 @@ use Rattle.session.proofs.Filled.{filled, followed, unread}
 use Rattle.session.proofs.payload.object_handles.Statement.{statement}
 use Rattle.session.proofs.payload.object_handles.Tie as tie
 
-returns : tie.Need-returns
+returns : tie.Need-returns-in-Till
 returns c =
-    let x = c.before.before.before.before.before in
-    let s = x.before.before.before.before.args.s.now in
-    filled (array_at 4) s (heard says_part x.p.given.1 x.before.before.array.ensures) (heard says_span c.before.end2.given.1 c.before.before.before.end.ensures)
+    let x = c in
+    let s = x.args.s.now in
+    filled (array_at 4) s (heard says_part x.in-Got.is x.array.ensures) (heard says_span c.in-Till.is c.end.ensures)
 
-returns-2 : tie.Need-returns-2
+returns-2 : tie.Need-returns-in-Refused-end
 returns-2 c =
-    let x = c.before.before.before.before.before in
-    let s = x.before.before.before.before.args.s.now in
-    followed (array_at 4) s (heard says_part x.p.given.1 x.before.before.array.ensures) (heard says_span c.before.f.given.1 c.before.before.before.end.ensures)
+    let x = c in
+    let s = x.args.s.now in
+    followed (array_at 4) s (heard says_part x.in-Got.is x.array.ensures) (heard says_span c.in-Refused-end.is c.end.ensures)
 
-returns-3 : tie.Need-returns-3
-returns-3 c = unread (array_at 4) c.before.before.before.before.before.args.s.now (heard says_part c.before.f2.given.1 c.before.before.before.array.ensures)
+returns-3 : tie.Need-returns-in-Refused
+returns-3 c = unread (array_at 4) c.args.s.now (heard says_part c.in-Refused.is c.array.ensures)
 
-pub object-handles-spec : {M : Type 1} → statement M
-object-handles-spec =
+pub object_handles_spec : {M : Type 1} → statement M
+object_handles_spec =
     tie.close
     (tie.spec
     (λ c κs. search rules)

@@ -9,23 +9,23 @@ use Rattle.session.proofs.Filled.{filled, followed, unread}
 use Rattle.session.proofs.payload.storage_info.Statement.{statement}
 use Rattle.session.proofs.payload.storage_info.Tie as tie
 
-returns : tie.Need-returns
+returns : tie.Need-returns-in-Till
 returns c =
-    let x = c.before.before.before.before.before in
-    let s = x.before.before.before.before.args.s.now in
-    filled (row_at storage) s (heard says_storage x.x.given.1 x.before.before.storage-info.ensures) (heard says_span c.before.end2.given.1 c.before.before.before.end.ensures)
+    let x = c in
+    let s = x.args.s.now in
+    filled (row_at storage) s (heard says_storage x.in-Got.is x.storage_info.ensures) (heard says_span c.in-Till.is c.end.ensures)
 
-returns-2 : tie.Need-returns-2
+returns-2 : tie.Need-returns-in-Refused-end
 returns-2 c =
-    let x = c.before.before.before.before.before in
-    let s = x.before.before.before.before.args.s.now in
-    followed (row_at storage) s (heard says_storage x.x.given.1 x.before.before.storage-info.ensures) (heard says_span c.before.f.given.1 c.before.before.before.end.ensures)
+    let x = c in
+    let s = x.args.s.now in
+    followed (row_at storage) s (heard says_storage x.in-Got.is x.storage_info.ensures) (heard says_span c.in-Refused-end.is c.end.ensures)
 
-returns-3 : tie.Need-returns-3
-returns-3 c = unread (row_at storage) c.before.before.before.before.before.args.s.now (heard says_storage c.before.f2.given.1 c.before.before.before.storage-info.ensures)
+returns-3 : tie.Need-returns-in-Refused
+returns-3 c = unread (row_at storage) c.args.s.now (heard says_storage c.in-Refused.is c.storage_info.ensures)
 
-pub storage-info-spec : {M : Type 1} → statement M
-storage-info-spec =
+pub storage_info_spec : {M : Type 1} → statement M
+storage_info_spec =
     tie.close
     (tie.spec
     (λ c κs. search rules)

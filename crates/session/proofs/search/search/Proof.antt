@@ -7,31 +7,31 @@ use Rattle.session.proofs.Answered.{Passed, none_passed, ends_none, ends_unread,
 use Rattle.session.proofs.search.search.Statement.{statement}
 use Rattle.session.proofs.search.search.Tie as tie
 
-abbrev invariant-loop : tie.invariant-loop
+abbrev invariant-loop : tie.invariant-loop-at
 invariant-loop s number at₀ last₀ at last = Passed number s at last
 
-abbrev decreases-loop : tie.decreases-loop
+abbrev decreases-loop : tie.decreases-loop-at
 decreases-loop s number at₀ last₀ at last = length s - at
 
 -- the container that was read
-read : (c : tie.After-x invariant-loop decreases-loop) → got c.x.given.0.0 c.x.given.0.1.0.at ≡ container_at c.before.before.before.before.before.before.args.s.now c.before.before.before.before.loop.at
-read c = heard says_container c.x.given.1 c.before.before.read-container.ensures
+read : (c : tie.In-Got invariant-loop decreases-loop) → got c.in-Got.x c.in-Got.next.at ≡ container_at c.args.s.now c.loop-at.at
+read c = heard says_container c.in-Got.is c.read_container.ensures
 
-loop-less : tie.Need-loop-smaller invariant-loop decreases-loop
+loop-less : tie.Need-loop-at-smaller invariant-loop decreases-loop
 loop-less c =
-    let x = c.before.before.before.before.before.before in
-    let l = x.before.before.before.before in
-    let p = passed_more l.before.before.args.number l.before.before.args.s.now l.loop.invariant (read x) c.before.before.before.if1.false c.before.if2.false in
-    omega (arith, goes_on l.before.before.args.number l.before.before.args.s.now l.loop.invariant (read x), p.within)
+    let x = c in
+    let l = x in
+    let p = passed_more l.args.number l.args.s.now l.loop-at.invariant (read c.before.before.before.before.before) c.if-x-number.false c.if-x-eq3.false in
+    omega (arith, goes_on l.args.number l.args.s.now l.loop-at.invariant (read c.before.before.before.before.before), p.within)
 
-loop-again : tie.Need-loop-preserved invariant-loop decreases-loop
+loop-again : tie.Need-loop-at-preserved invariant-loop decreases-loop
 loop-again c =
-    let x = c.before.before.before.before.before.before in
-    let l = x.before.before.before.before in
-    rw c.latest.ensures (passed_more _ _ l.loop.invariant (read x) c.before.before.before.if1.false c.before.if2.false)
+    let x = c in
+    let l = x in
+    rw c.latest-last.ensures (passed_more _ _ l.loop-at.invariant (read c.before.before.before.before.before) c.if-x-number.false c.if-x-eq3.false)
 
-pub search-spec : {M : Type 1} → statement M
-search-spec =
+pub search_spec : {M : Type 1} → statement M
+search_spec =
     tie.close
     (tie.spec
     invariant-loop
@@ -40,13 +40,13 @@ search-spec =
     (λ c κs. search rules)
     (λ c. search rules)
     (λ c κs. search rules)
-    (λ c. let x = c.before.before.before.before in ends_another _ _ x.before.before.before.before.loop.invariant (read x) c.before.if1.true c.plain.ensures)
-    (λ c. let x = c.before.before.before.before.before in ends_response _ _ x.before.before.before.before.loop.invariant (read x) c.before.before.if1.false c.if2.true)
+    (λ c. let x = c in ends_another _ _ x.loop-at.invariant (read c.before.before.before) c.if-x-number.true c.plain.ensures)
+    (λ c. let x = c in ends_response _ _ x.loop-at.invariant (read c.before.before.before.before) c.if-x-number.false c.if-x-eq3.true)
     (λ c κs. search rules)
     loop-less
     loop-again
     (λ c. search rules)
     (λ c.
-    ends_unread _ _ c.before.before.before.before.before.loop.invariant c.before.before.before.before.loop-test.true (heard says_container c.before.f.given.1 c.before.before.before.read-container.ensures))
+    ends_unread _ _ c.loop-at.invariant c.loop-at-test.true (heard says_container c.in-Refused.is c.read_container.ensures))
     (λ c κs. search rules)
-    (λ c. ends_none _ _ c.before.before.loop.invariant c.before.loop-test.false c.plain2.ensures))
+    (λ c. ends_none _ _ c.loop-at.invariant c.loop-at-test.false c.plain-2.ensures))

@@ -6,12 +6,12 @@ use Rattle.session.proofs.transaction.command_with_data.Tie as tie
 
 returns : tie.Need-returns
 returns c =
-    let w = c.before.before.before in
+    let w = c in
     record {
-      written = says_written w.write-both.result;
-      wrote = rw w.before.before.number-sent.ensures at w.write-both.ensures;
-      answers = c.with-turn.ensures;
+      written = says_written w.write_both.result;
+      wrote = rw w.number_sent-number.ensures at w.write_both.ensures;
+      answers = c.with_turn.ensures;
     }
 
-pub command-with-data-spec : {M : Type 1} → statement M
-command-with-data-spec = tie.close (tie.spec (λ c κs. search rules) (λ c κs. search rules) (λ c κs. search rules) (λ c. search rules) returns)
+pub command_with_data_spec : {M : Type 1} → statement M
+command_with_data_spec = tie.close (tie.spec (λ c κs. search rules) (λ c κs. search rules) (λ c κs. search rules) (λ c. search rules) returns)

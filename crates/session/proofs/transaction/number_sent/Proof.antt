@@ -4,5 +4,5 @@ use Rattle.session.proofs.Numbers.{sends_zero, sends_state}
 use Rattle.session.proofs.transaction.number_sent.Statement.{statement}
 use Rattle.session.proofs.transaction.number_sent.Tie as tie
 
-pub number-sent-spec : {M : Type 1} → statement M
-number-sent-spec = tie.close (tie.spec (λ c. sym (sends_zero _ _ c.if1.true)) (λ c. sym (sends_state _ _ c.if1.false)))
+pub number_sent_spec : {M : Type 1} → statement M
+number_sent_spec = tie.close (tie.spec (λ c. sym (sends_zero _ _ c.if-code-eq-OPEN_SESSION.true)) (λ c. sym (sends_state _ _ c.if-code-eq-OPEN_SESSION.false)))

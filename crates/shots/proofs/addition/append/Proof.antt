@@ -12,10 +12,10 @@ use Rattle.shots.proofs.Appending.{child_first, child_next}
 use Rattle.shots.proofs.addition.append.Statement.{statement}
 use Rattle.shots.proofs.addition.append.Tie as tie
 
-abbrev invariant-loop : tie.invariant-loop
+abbrev invariant-loop : tie.invariant-loop-k
 invariant-loop parents marks first next parent place p k₀ k = Child parents (live marks) parent 1 k
 
-abbrev decreases-loop : tie.decreases-loop
+abbrev decreases-loop : tie.decreases-loop-k
 decreases-loop parents marks first next parent place p k₀ k = length parents - k
 
 -- a live place is one
@@ -23,79 +23,79 @@ small : (b : tie.Start invariant-loop decreases-loop) (k : ℕ) → live b.args.
 small b k e = let h = b.requires.1.0.place k e in omega (arith, b.requires.0.few)
 
 -- along the chain to the next sibling
-turn : (c : tie.After-slice-known3 invariant-loop decreases-loop) →
-    let a = c.before.before.before.before.before.before.args in
-    let k = c.before.before.before.loop.k in
+turn : (c : tie.After-slice_known-in-loop-k-2-1 invariant-loop decreases-loop) →
+    let a = c.args in
+    let k = c.loop-k.k in
     Child a.parents.now (live a.marks.now) a.parent 1 (get_or a.next.now k 0) × (k < get_or a.next.now k 0)
 turn c =
-    let b = c.before.before.before.before.before.before in
-    child_next b.requires.1.1.0 b.requires.1.1.1.0 c.before.before.before.loop.invariant c.before.if2.true
+    let b = c in
+    child_next b.requires.1.1.0 b.requires.1.1.1.0 c.loop-k.invariant c.loop-k-test.true
 
-mul-k : tie.Need-overflow-mul-k invariant-loop decreases-loop
-mul-k c = let b = c in let h = small b b.args.parent b.requires.1.1.1.0 in omega arith
+mul-k : tie.Need-offset_bounds-first-p invariant-loop decreases-loop
+mul-k c = let b = c in let h = small c b.args.parent b.requires.1.1.1.0 in omega arith
 
-slice-read-k : tie.Need-slice-read-k invariant-loop decreases-loop
-slice-read-k c = let b = c.before in let h = small b b.args.parent b.requires.1.1.1.0 in omega (arith, b.requires.1.1.0.firsts)
+slice-read-k : tie.Need-bounds-first-p invariant-loop decreases-loop
+slice-read-k c = let b = c in let h = small c.before b.args.parent b.requires.1.1.1.0 in omega (arith, b.requires.1.1.0.firsts)
 
-cast-k : tie.Need-overflow-cast-k invariant-loop decreases-loop
-cast-k c = omega (arith, c.slice-known.given c.before.args.parent)
+cast-k : tie.Need-overflow_cast-k invariant-loop decreases-loop
+cast-k c = omega (arith, c.slice_known-1.given c.args.parent)
 
-cast-first : tie.Need-overflow-cast-first invariant-loop decreases-loop
-cast-first c = omega (arith, c.before.before.requires.1.1.1.1)
+cast-first : tie.Need-overflow_cast-first invariant-loop decreases-loop
+cast-first c = omega (arith, c.requires.1.1.1.1)
 
-mul-first : tie.Need-overflow-mul-first invariant-loop decreases-loop
-mul-first c = let b = c.before.before in let h = small b b.args.parent b.requires.1.1.1.0 in omega arith
+mul-first : tie.Need-offset_bounds-first-p-then-k-eq0 invariant-loop decreases-loop
+mul-first c = let b = c in let h = small c.before.before b.args.parent b.requires.1.1.1.0 in omega arith
 
-slice-write-first : tie.Need-slice-write-first invariant-loop decreases-loop
-slice-write-first c = let b = c.before.before in let h = small b b.args.parent b.requires.1.1.1.0 in omega (arith, b.requires.1.1.0.firsts)
+slice-write-first : tie.Need-bounds-first-p-then-k-eq0 invariant-loop decreases-loop
+slice-write-first c = let b = c in let h = small c.before.before b.args.parent b.requires.1.1.1.0 in omega (arith, b.requires.1.1.0.firsts)
 
-same_length : tie.Need-same-length invariant-loop decreases-loop
+same_length : tie.Need-shape_of-first-then-k-eq0 invariant-loop decreases-loop
 same_length c = search rules
 
-returns : tie.Need-returns invariant-loop decreases-loop
-returns c = only c.if1.true
+returns : tie.Need-returns-then-k-eq0 invariant-loop decreases-loop
+returns c = only c.if-k-eq0.true
 
-loop-holds : tie.Need-loop-init invariant-loop decreases-loop
-loop-holds c = let b = c.before.before in child_first b.requires.1.1.0 b.requires.1.1.1.0 c.if1.false
+loop-holds : tie.Need-loop-k-init invariant-loop decreases-loop
+loop-holds c = let b = c in child_first b.requires.1.1.0 b.requires.1.1.1.0 c.if-k-eq0.false
 
-mul-if2 : tie.Need-overflow-mul-if2 invariant-loop decreases-loop
-mul-if2 c = let b = c.before.before.before in let l = c.loop in let h = small b l.k l.invariant.living in omega arith
+mul-if2 : tie.Need-offset_bounds-next-k invariant-loop decreases-loop
+mul-if2 c = let b = c in let l = c.loop-k in let h = small c.before.before.before l.k l.invariant.living in omega arith
 
-slice-read-if2 : tie.Need-slice-read-if2 invariant-loop decreases-loop
-slice-read-if2 c = let b = c.before.before.before.before in let l = c.before.loop in let h = small b l.k l.invariant.living in omega (arith, b.requires.1.1.0.nexts)
+slice-read-if2 : tie.Need-bounds-next-k invariant-loop decreases-loop
+slice-read-if2 c = let b = c in let l = c.loop-k in let h = small c.before.before.before.before l.k l.invariant.living in omega (arith, b.requires.1.1.0.nexts)
 
-mul-k-2 : tie.Need-overflow-mul-k-2 invariant-loop decreases-loop
-mul-k-2 c = let b = c.before.before.before.before.before in let l = c.before.before.loop in let h = small b l.k l.invariant.living in omega arith
+mul-k-2 : tie.Need-offset_bounds-next-k-in-loop-k invariant-loop decreases-loop
+mul-k-2 c = let b = c in let l = c.loop-k in let h = small c.before.before.before.before.before l.k l.invariant.living in omega arith
 
-slice-read-k-2 : tie.Need-slice-read-k-2 invariant-loop decreases-loop
-slice-read-k-2 c = let b = c.before.before.before.before.before.before in let l = c.before.before.before.loop in let h = small b l.k l.invariant.living in omega (arith, b.requires.1.1.0.nexts)
+slice-read-k-2 : tie.Need-bounds-next-k-in-loop-k invariant-loop decreases-loop
+slice-read-k-2 c = let b = c in let l = c.loop-k in let h = small c.before.before.before.before.before.before l.k l.invariant.living in omega (arith, b.requires.1.1.0.nexts)
 
-cast-k-2 : tie.Need-overflow-cast-k-2 invariant-loop decreases-loop
-cast-k-2 c = omega (arith, c.slice-known3.given c.before.before.before.loop.k)
+cast-k-2 : tie.Need-overflow_cast-k-in-loop-k invariant-loop decreases-loop
+cast-k-2 c = omega (arith, c.slice_known-in-loop-k-2-1.given c.loop-k.k)
 
-loop-less : tie.Need-loop-smaller invariant-loop decreases-loop
-loop-less c = let r = turn c in let h = c.before.before.before.before.before.before.requires.1.0.place _ r.0.living in omega (arith, r.1)
+loop-less : tie.Need-loop-k-smaller invariant-loop decreases-loop
+loop-less c = let r = turn c in let h = c.requires.1.0.place _ r.0.living in omega (arith, r.1)
 
-loop-again : tie.Need-loop-preserved invariant-loop decreases-loop
+loop-again : tie.Need-loop-k-preserved invariant-loop decreases-loop
 loop-again c = (turn c).0
 
-cast-next : tie.Need-overflow-cast-next invariant-loop decreases-loop
-cast-next c = omega (arith, c.before.before.before.before.before.requires.1.1.1.1)
+cast-next : tie.Need-overflow_cast-next invariant-loop decreases-loop
+cast-next c = omega (arith, c.requires.1.1.1.1)
 
-mul_next : tie.Need-overflow-mul-next invariant-loop decreases-loop
-mul_next c = let b = c.before.before.before.before.before in let l = c.before.before.loop in let h = small b l.k l.invariant.living in omega arith
+mul_next : tie.Need-offset_bounds-next-k-2 invariant-loop decreases-loop
+mul_next c = let b = c in let l = c.loop-k in let h = small c.before.before.before.before.before l.k l.invariant.living in omega arith
 
-slice-write-next : tie.Need-slice-write-next invariant-loop decreases-loop
-slice-write-next c = let b = c.before.before.before.before.before in let l = c.before.before.loop in let h = small b l.k l.invariant.living in omega (arith, b.requires.1.1.0.nexts)
+slice-write-next : tie.Need-bounds-next-k-2 invariant-loop decreases-loop
+slice-write-next c = let b = c in let l = c.loop-k in let h = small c.before.before.before.before.before l.k l.invariant.living in omega (arith, b.requires.1.1.0.nexts)
 
-same-length-2 : tie.Need-same-length-2 invariant-loop decreases-loop
+same-length-2 : tie.Need-shape_of-next invariant-loop decreases-loop
 same-length-2 c = search rules
 
-returns-2 : tie.Need-returns-2 invariant-loop decreases-loop
-returns-2 c = last c.before.before.loop.invariant c.if2.false
+returns-2 : tie.Need-returns invariant-loop decreases-loop
+returns-2 c = last c.loop-k.invariant c.loop-k-test.false
 
-pub append-spec : {M : Type 1} → statement M
-append-spec =
+pub append_spec : {M : Type 1} → statement M
+append_spec =
     tie.close
     (tie.spec
     invariant-loop

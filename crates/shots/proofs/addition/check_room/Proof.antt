@@ -12,23 +12,23 @@ living-requires c κs = search rules
 plain-requires : tie.Need-plain-requires
 plain-requires c κs = search rules
 
-returns : tie.Need-returns
-returns c = let a = c.before.before.before.before.before.before.args in spare_taken a.marks.now a.ends.now a.names.now a.size (sym c.before.before.living.ensures ∙ c.before.if1.true) c.plain.ensures
+returns : tie.Need-returns-then-living-eq1024
+returns c = let a = c.args in spare_taken a.marks.now a.ends.now a.names.now a.size (sym c.living.ensures ∙ c.if-living-eq1024.true) c.plain.ensures
 
 spare-requires : tie.Need-spare-requires
 spare-requires c κs = search rules
 
-plain-requires-2 : tie.Need-plain-requires-2
+plain-requires-2 : tie.Need-plain-requires-then-spare-size
 plain-requires-2 c κs = search rules
 
-returns-2 : tie.Need-returns-2
-returns-2 c = let a = c.before.before.before.before.before.before.before.before.args in spare_short a.marks.now a.ends.now a.names.now a.size (λ q. c.before.before.before.if1.false (c.before.before.before.before.living.ensures ∙ q)) (omega (arith, c.before.before.spare.ensures, c.before.if2.true)) c.plain2.ensures
+returns-2 : tie.Need-returns-then-spare-size
+returns-2 c = let a = c.args in spare_short a.marks.now a.ends.now a.names.now a.size (λ q. c.if-living-eq1024.false (c.living.ensures ∙ q)) (omega (arith, c.spare.ensures, c.if-spare-size.true)) c.plain-then-spare-size.ensures
 
-returns-3 : tie.Need-returns-3
-returns-3 c = let a = c.before.before.before.before.before.before.before.args in spare_fits a.marks.now a.ends.now a.names.now a.size (λ q. c.before.before.if1.false (c.before.before.before.living.ensures ∙ q)) (omega (arith, c.before.spare.ensures, c.if2.false))
+returns-3 : tie.Need-returns
+returns-3 c = let a = c.args in spare_fits a.marks.now a.ends.now a.names.now a.size (λ q. c.if-living-eq1024.false (c.living.ensures ∙ q)) (omega (arith, c.spare.ensures, c.if-spare-size.false))
 
-pub check-room-spec : {M : Type 1} → statement M
-check-room-spec =
+pub check_room_spec : {M : Type 1} → statement M
+check_room_spec =
     tie.close
     (tie.spec
     living-requires

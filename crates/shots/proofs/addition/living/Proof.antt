@@ -7,38 +7,38 @@ use Rattle.shots.proofs.Additions.{Counting, counting_start, counting_on, counti
 use Rattle.shots.proofs.addition.living.Statement.{statement}
 use Rattle.shots.proofs.addition.living.Tie as tie
 
-abbrev invariant-loop : tie.invariant-loop
+abbrev invariant-loop : tie.invariant-loop-k
 invariant-loop marks n₀ k₀ n k = Counting marks n k
 
-abbrev decreases-loop : tie.decreases-loop
+abbrev decreases-loop : tie.decreases-loop-k
 decreases-loop marks n₀ k₀ n k = length marks - k
 
-loop-holds : tie.Need-loop-init invariant-loop decreases-loop
+loop-holds : tie.Need-loop-k-init invariant-loop decreases-loop
 loop-holds c = counting_start
 
-shared-slice-read-one : tie.Need-shared-slice-read-one invariant-loop decreases-loop
+shared-slice-read-one : tie.Need-bounds-marks-k invariant-loop decreases-loop
 shared-slice-read-one c = omega arith
 
-one-requires : tie.Need-one-requires invariant-loop decreases-loop
+one-requires : tie.Need-one-n-requires invariant-loop decreases-loop
 one-requires c κs = search rules
 
-add-n : tie.Need-overflow-add-n invariant-loop decreases-loop
-add-n c = let n = (counting_on c.before.before.before.loop.invariant c.before.before.loop-test.true).behind in omega (arith, c.before.before.before.before.before.requires, c.one.ensures)
+add-n : tie.Need-overflow_add-n invariant-loop decreases-loop
+add-n c = let n = (counting_on c.loop-k.invariant c.loop-k-test.true).behind in omega (arith, c.requires, c.one-n.ensures)
 
-add-k : tie.Need-overflow-add-k invariant-loop decreases-loop
-add-k c = omega (arith, c.before.before.before.before.before.requires)
+add-k : tie.Need-overflow_add-k invariant-loop decreases-loop
+add-k c = omega (arith, c.requires)
 
-loop-less : tie.Need-loop-smaller invariant-loop decreases-loop
+loop-less : tie.Need-loop-k-smaller invariant-loop decreases-loop
 loop-less c = omega arith
 
-loop-again : tie.Need-loop-preserved invariant-loop decreases-loop
-loop-again c = rw c.one.ensures (counting_on c.before.before.before.loop.invariant c.before.before.loop-test.true)
+loop-again : tie.Need-loop-k-preserved invariant-loop decreases-loop
+loop-again c = rw c.one-n.ensures (counting_on c.loop-k.invariant c.loop-k-test.true)
 
 returns : tie.Need-returns invariant-loop decreases-loop
-returns c = counting_end c.before.loop.invariant c.loop-test.false
+returns c = counting_end c.loop-k.invariant c.loop-k-test.false
 
-pub living-spec : {M : Type 1} → statement M
-living-spec =
+pub living_spec : {M : Type 1} → statement M
+living_spec =
     tie.close
     (tie.spec
     invariant-loop

@@ -11,72 +11,72 @@ use Rattle.layout.specs.Written.{put}
 use Rattle.shots.proofs.addition.put_object.Statement.{statement}
 use Rattle.shots.proofs.addition.put_object.Tie as tie
 
-last-end-requires : tie.Need-last-end-requires
-last-end-requires c κs = let r = c.before.before.before.before.before.before.before.requires in (omega (arith, r.free, r.ended), r.ended)
+last-end-requires : tie.Need-last_end-from-requires
+last-end-requires c κs = let r = c.requires in (omega (arith, r.free, r.ended), r.ended)
 
-mul-handles : tie.Need-overflow-mul-handles
-mul-handles c = omega (arith, c.before.before.before.before.before.before.before.before.requires.free)
+mul-handles : tie.Need-offset_bounds-handles-count
+mul-handles c = omega (arith, c.requires.free)
 
-slice-write-handles : tie.Need-slice-write-handles
-slice-write-handles c = omega (arith, c.before.before.before.before.before.before.before.before.requires.free, c.before.before.before.before.before.before.before.before.requires.handled)
+slice-write-handles : tie.Need-bounds-handles-count
+slice-write-handles c = omega (arith, c.requires.free, c.requires.handled)
 
-mul-parents : tie.Need-overflow-mul-parents
-mul-parents c = omega (arith, c.before.before.before.before.before.before.before.before.requires.free)
+mul-parents : tie.Need-offset_bounds-parents-count
+mul-parents c = omega (arith, c.requires.free)
 
-slice-write-parents : tie.Need-slice-write-parents
-slice-write-parents c = omega (arith, c.before.before.before.before.before.before.before.before.requires.free, c.before.before.before.before.before.before.before.before.requires.parented)
+slice-write-parents : tie.Need-bounds-parents-count
+slice-write-parents c = omega (arith, c.requires.free, c.requires.parented)
 
-add-ends : tie.Need-overflow-add-ends
-add-ends c = omega (arith, c.before.before.before.before.before.before.before.before.requires.short, c.last-end.ensures)
+add-ends : tie.Need-overflow_add-ends
+add-ends c = omega (arith, c.requires.short, c.last_end-from.ensures)
 
-cast_ends : tie.Need-overflow-cast-ends
-cast_ends c = omega (arith, c.before.before.before.before.before.before.before.before.requires.short, c.last-end.ensures)
+cast_ends : tie.Need-overflow_cast-ends
+cast_ends c = omega (arith, c.requires.short, c.last_end-from.ensures)
 
-mul-ends : tie.Need-overflow-mul-ends
-mul-ends c = omega (arith, c.before.before.before.before.before.before.before.before.requires.free)
+mul-ends : tie.Need-offset_bounds-ends-count
+mul-ends c = omega (arith, c.requires.free)
 
-slice-write-ends : tie.Need-slice-write-ends
-slice-write-ends c = omega (arith, c.before.before.before.before.before.before.before.before.requires.free, c.before.before.before.before.before.before.before.before.requires.ended)
+slice-write-ends : tie.Need-bounds-ends-count
+slice-write-ends c = omega (arith, c.requires.free, c.requires.ended)
 
-slice-write-marks : tie.Need-slice-write-marks
-slice-write-marks c = omega (arith, c.before.before.before.before.before.before.before.before.requires.free, c.before.before.before.before.before.before.before.before.requires.flagged)
+slice-write-marks : tie.Need-bounds-marks-count
+slice-write-marks c = omega (arith, c.requires.free, c.requires.flagged)
 
 copy-requires : tie.Need-copy-requires
 copy-requires c κs = search rules
 
-same_length : tie.Need-same-length
+same_length : tie.Need-shape_of-handles
 same_length c = search rules
 
-same-length-2 : tie.Need-same-length-2
+same-length-2 : tie.Need-shape_of-parents
 same-length-2 c = search rules
 
-same-length-3 : tie.Need-same-length-3
+same-length-3 : tie.Need-shape_of-ends
 same-length-3 c = search rules
 
-same-length-4 : tie.Need-same-length-4
+same-length-4 : tie.Need-shape_of-marks
 same-length-4 c = search rules
 
-same-length-5 : tie.Need-same-length-5
+same-length-5 : tie.Need-shape_of-names
 same-length-5 c = search rules
 
 returns : tie.Need-returns
 returns c =
-    let a = c.before.before.before.before.before.before.before.before.before.before.before.before.args in
-    let r = c.before.before.before.before.before.before.before.before.before.before.before.before.requires in
-    let from = c.before.before.before.before.last-end.ensures in
+    let a = c.args in
+    let r = c.requires in
+    let from = c.last_end-from.ensures in
     let all = take-length a.name.now in
     let long = ap length all in
-    let p = roomy _ c.before.before.copy.ensures (omega (arith, r.holds)) in
+    let p = roomy _ c.copy.ensures (omega (arith, r.holds)) in
     record {
       handles = refl;
       parents = refl;
       ends = ap (λ (x : ℕ). set a.ends.now a.count (x + length a.name.now)) from;
       marks = refl;
-      names = p.bytes ∙ ap (λ (x : List ℕ). put a.names.now c.before.before.before.before.last-end.result x) all ∙ ap (λ (x : ℕ). put a.names.now x a.name.now) from;
+      names = p.bytes ∙ ap (λ (x : List ℕ). put a.names.now c.last_end-from.result x) all ∙ ap (λ (x : ℕ). put a.names.now x a.name.now) from;
     }
 
-pub put-object-spec : {M : Type 1} → statement M
-put-object-spec =
+pub put_object_spec : {M : Type 1} → statement M
+put_object_spec =
     tie.close
     (tie.spec
     last-end-requires

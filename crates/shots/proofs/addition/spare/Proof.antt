@@ -9,65 +9,65 @@ use Rattle.shots.proofs.Additions.{Sparing, sparing_start, sparing_hit, sparing_
 use Rattle.shots.proofs.addition.spare.Statement.{statement}
 use Rattle.shots.proofs.addition.spare.Tie as tie
 
-abbrev invariant-loop : tie.invariant-loop
+abbrev invariant-loop : tie.invariant-loop-k
 invariant-loop marks ends names o₀ from₀ k₀ o from k = Sparing marks ends names o from k
 
-abbrev decreases-loop : tie.decreases-loop
+abbrev decreases-loop : tie.decreases-loop-k
 decreases-loop marks ends names o₀ from₀ k₀ o from k = length marks - k
 
-loop-holds : tie.Need-loop-init invariant-loop decreases-loop
+loop-holds : tie.Need-loop-k-init invariant-loop decreases-loop
 loop-holds c = sparing_start
 
-mul-end : tie.Need-overflow-mul-end invariant-loop decreases-loop
-mul-end c = omega (arith, c.before.before.requires.0)
+mul-end : tie.Need-offset_bounds-ends-k invariant-loop decreases-loop
+mul-end c = omega (arith, c.requires.0)
 
-shared-slice-read-end : tie.Need-shared-slice-read-end invariant-loop decreases-loop
-shared-slice-read-end c = omega (arith, c.before.before.before.requires.1.0)
+shared-slice-read-end : tie.Need-bounds-ends-k invariant-loop decreases-loop
+shared-slice-read-end c = omega (arith, c.requires.1.0)
 
-cast-end : tie.Need-overflow-cast-end invariant-loop decreases-loop
-cast-end c = omega (arith, c.shared-slice-known.given c.before.before.loop.k)
+cast-end : tie.Need-overflow_cast-end invariant-loop decreases-loop
+cast-end c = omega (arith, c.shared_slice_known-1.given c.loop-k.k)
 
-shared-slice-read-if1 : tie.Need-shared-slice-read-if1 invariant-loop decreases-loop
+shared-slice-read-if1 : tie.Need-bounds-marks-k invariant-loop decreases-loop
 shared-slice-read-if1 c = omega arith
 
-sub-o : tie.Need-overflow-sub-o invariant-loop decreases-loop
+sub-o : tie.Need-overflow_sub-o invariant-loop decreases-loop
 sub-o c =
-    let l = c.before.before.before.before.loop in
-    omega (arith, c.before.before.before.before.before.requires.1.1.risen.rises l.k c.before.before.before.loop-test.true, l.invariant.begins)
+    let l = c.loop-k in
+    omega (arith, c.requires.1.1.risen.rises l.k c.loop-k-test.true, l.invariant.begins)
 
-add-o : tie.Need-overflow-add-o invariant-loop decreases-loop
+add-o : tie.Need-overflow_add-o invariant-loop decreases-loop
 add-o c =
-    let l = c.before.before.before.before.loop in
-    omega (arith, c.before.before.before.before.before.requires.1.1.risen.rises l.k c.before.before.before.loop-test.true, l.invariant.begins, l.invariant.behind, c.before.before.shared-slice-known.given l.k)
+    let l = c.loop-k in
+    omega (arith, c.requires.1.1.risen.rises l.k c.loop-k-test.true, l.invariant.begins, l.invariant.behind, c.shared_slice_known-1.given l.k)
 
-add-k : tie.Need-overflow-add-k invariant-loop decreases-loop
-add-k c = omega (arith, c.before.before.before.before.before.requires.0)
+add-k : tie.Need-overflow_add-k invariant-loop decreases-loop
+add-k c = omega (arith, c.requires.0)
 
-loop-less : tie.Need-loop-smaller invariant-loop decreases-loop
+loop-less : tie.Need-loop-k-smaller invariant-loop decreases-loop
 loop-less c = omega arith
 
-loop-again : tie.Need-loop-preserved invariant-loop decreases-loop
+loop-again : tie.Need-loop-k-preserved invariant-loop decreases-loop
 loop-again c =
-    let a = c.before.before.before.before.before in
-    let l = c.before.before.before.before.loop in
-    let more = c.before.before.before.loop-test.true in
+    let a = c in
+    let l = c.loop-k in
+    let more = c.loop-k-test.true in
     let s = a.requires.1.1 in
     let up = s.risen.rises l.k more in
     let within = s.inside l.k more in
     let m = get_or a.args.marks.now l.k 0 in
     ⊎_elim
-    (λ w. rw w.1 (sparing_hit l.invariant a.requires.1.0 more up within (lt-ltb 0 m (omega (arith, w.0.taken)))))
-    (λ w. rw w.1 (sparing_skip l.invariant a.requires.1.0 more up within (le-ltb 0 m (omega (arith, w.0.left)))))
-    c.if1.branch
+    (λ w. rw w.o-is (sparing_hit l.invariant a.requires.1.0 more up within (lt-ltb 0 m (omega (arith, w.if-marks-k-ne0.true)))))
+    (λ w. rw w.o-is (sparing_skip l.invariant a.requires.1.0 more up within (le-ltb 0 m (omega (arith, w.if-marks-k-ne0.false)))))
+    c.if-marks-k-ne0.branch-raw
 
-sub-result : tie.Need-overflow-sub-result invariant-loop decreases-loop
-sub-result c = (sparing_end c.before.loop.invariant c.before.before.requires.1.0 c.before.before.requires.1.1 c.loop-test.false).1
+sub-result : tie.Need-overflow_sub-result invariant-loop decreases-loop
+sub-result c = (sparing_end c.loop-k.invariant c.requires.1.0 c.requires.1.1 c.loop-k-test.false).1
 
 returns : tie.Need-returns invariant-loop decreases-loop
-returns c = let e = (sparing_end c.before.loop.invariant c.before.before.requires.1.0 c.before.before.requires.1.1 c.loop-test.false).0 in ap (λ (x : ℕ). length c.before.before.args.names.now - x) e
+returns c = let e = (sparing_end c.loop-k.invariant c.requires.1.0 c.requires.1.1 c.loop-k-test.false).0 in ap (λ (x : ℕ). length c.args.names.now - x) e
 
-pub spare-spec : {M : Type 1} → statement M
-spare-spec =
+pub spare_spec : {M : Type 1} → statement M
+spare_spec =
     tie.close
     (tie.spec
     invariant-loop

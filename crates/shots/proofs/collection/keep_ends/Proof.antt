@@ -8,77 +8,77 @@ use Rattle.shots.proofs.Movings.{Bounding, bounding_start, bounding_reads, bound
 use Rattle.shots.proofs.collection.keep_ends.Statement.{statement}
 use Rattle.shots.proofs.collection.keep_ends.Tie as tie
 
-abbrev invariant-loop : tie.invariant-loop
+abbrev invariant-loop : tie.invariant-loop-k
 invariant-loop marks ends₀ n₀ at₀ from₀ k₀ ends n at from k = Bounding marks ends₀ ends n at from k
 
-abbrev decreases-loop : tie.decreases-loop
+abbrev decreases-loop : tie.decreases-loop-k
 decreases-loop marks ends₀ n₀ at₀ from₀ k₀ ends n at from k = length marks - k
 
-loop-holds : tie.Need-loop-init invariant-loop decreases-loop
+loop-holds : tie.Need-loop-k-init invariant-loop decreases-loop
 loop-holds c = bounding_start
 
-mul-end : tie.Need-overflow-mul-end invariant-loop decreases-loop
-mul-end c = omega (arith, c.before.before.requires.0)
+mul-end : tie.Need-offset_bounds-ends-k invariant-loop decreases-loop
+mul-end c = omega (arith, c.requires.0)
 
-slice-read-end : tie.Need-slice-read-end invariant-loop decreases-loop
-slice-read-end c = omega (arith, c.before.before.before.requires.1.0, c.before.before.loop.invariant.owes.long)
+slice-read-end : tie.Need-bounds-ends-k invariant-loop decreases-loop
+slice-read-end c = omega (arith, c.requires.1.0, c.loop-k.invariant.owes.long)
 
-cast-end : tie.Need-overflow-cast-end invariant-loop decreases-loop
-cast-end c = omega (arith, c.slice-known.given c.before.before.loop.k)
+cast-end : tie.Need-overflow_cast-end invariant-loop decreases-loop
+cast-end c = omega (arith, c.slice_known-1.given c.loop-k.k)
 
-shared-slice-read-if1 : tie.Need-shared-slice-read-if1 invariant-loop decreases-loop
+shared-slice-read-if1 : tie.Need-bounds-marks-k invariant-loop decreases-loop
 shared-slice-read-if1 c = omega arith
 
-sub_at : tie.Need-overflow-sub-at invariant-loop decreases-loop
+sub_at : tie.Need-overflow_sub-at invariant-loop decreases-loop
 sub_at c =
-    let l = c.before.before.before.before.loop in
-    omega (arith, c.before.before.before.before.before.requires.1.1.rises l.k c.before.before.before.loop-test.true, l.invariant.begins, bounding_reads l.invariant c.before.before.before.before.before.requires.1.0)
+    let l = c.loop-k in
+    omega (arith, c.requires.1.1.rises l.k c.loop-k-test.true, l.invariant.begins, bounding_reads l.invariant c.requires.1.0)
 
-add_at : tie.Need-overflow-add-at invariant-loop decreases-loop
+add_at : tie.Need-overflow_add-at invariant-loop decreases-loop
 add_at c =
-    let l = c.before.before.before.before.loop in
-    omega (arith, c.before.before.before.before.before.requires.1.1.rises l.k c.before.before.before.loop-test.true, l.invariant.begins, l.invariant.shrinks, bounding_reads l.invariant c.before.before.before.before.before.requires.1.0, c.before.before.slice-known.given l.k)
+    let l = c.loop-k in
+    omega (arith, c.requires.1.1.rises l.k c.loop-k-test.true, l.invariant.begins, l.invariant.shrinks, bounding_reads l.invariant c.requires.1.0, c.slice_known-1.given l.k)
 
-cast_ends : tie.Need-overflow-cast-ends invariant-loop decreases-loop
+cast_ends : tie.Need-overflow_cast-ends invariant-loop decreases-loop
 cast_ends c =
-    let l = c.before.before.before.before.loop in
-    omega (arith, c.before.before.before.before.before.requires.1.1.rises l.k c.before.before.before.loop-test.true, l.invariant.begins, l.invariant.shrinks, bounding_reads l.invariant c.before.before.before.before.before.requires.1.0, c.before.before.slice-known.given l.k)
+    let l = c.loop-k in
+    omega (arith, c.requires.1.1.rises l.k c.loop-k-test.true, l.invariant.begins, l.invariant.shrinks, bounding_reads l.invariant c.requires.1.0, c.slice_known-1.given l.k)
 
-mul-ends : tie.Need-overflow-mul-ends invariant-loop decreases-loop
-mul-ends c = omega (arith, c.before.before.before.before.before.requires.0, c.before.before.before.before.loop.invariant.behind)
+mul-ends : tie.Need-offset_bounds-ends-n invariant-loop decreases-loop
+mul-ends c = omega (arith, c.requires.0, c.loop-k.invariant.behind)
 
-slice-write-ends : tie.Need-slice-write-ends invariant-loop decreases-loop
-slice-write-ends c = omega (arith, c.before.before.before.before.before.requires.1.0, c.before.before.before.before.loop.invariant.owes.long, c.before.before.before.before.loop.invariant.behind)
+slice-write-ends : tie.Need-bounds-ends-n invariant-loop decreases-loop
+slice-write-ends c = omega (arith, c.requires.1.0, c.loop-k.invariant.owes.long, c.loop-k.invariant.behind)
 
-add-n : tie.Need-overflow-add-n invariant-loop decreases-loop
-add-n c = omega (arith, c.before.before.before.before.before.requires.0, c.before.before.before.before.loop.invariant.behind)
+add-n : tie.Need-overflow_add-n invariant-loop decreases-loop
+add-n c = omega (arith, c.requires.0, c.loop-k.invariant.behind)
 
-add-k : tie.Need-overflow-add-k invariant-loop decreases-loop
-add-k c = omega (arith, c.before.before.before.before.before.requires.0)
+add-k : tie.Need-overflow_add-k invariant-loop decreases-loop
+add-k c = omega (arith, c.requires.0)
 
-loop-less : tie.Need-loop-smaller invariant-loop decreases-loop
+loop-less : tie.Need-loop-k-smaller invariant-loop decreases-loop
 loop-less c = omega arith
 
-loop-again : tie.Need-loop-preserved invariant-loop decreases-loop
+loop-again : tie.Need-loop-k-preserved invariant-loop decreases-loop
 loop-again c =
-    let a = c.before.before.before.before.before in
-    let l = c.before.before.before.before.loop in
-    let more = c.before.before.before.loop-test.true in
+    let a = c in
+    let l = c.loop-k in
+    let more = c.loop-k-test.true in
     let up = a.requires.1.1.rises l.k more in
     let m = get_or a.args.marks.now l.k 0 in
     ⊎_elim
-    (λ w. rw (w.1, w.2, w.3) (bounding_hit l.invariant a.requires.1.0 more up (lt-ltb 0 m (omega (arith, w.0.taken)))))
-    (λ w. rw (w.1, w.2, w.3) (bounding_skip l.invariant a.requires.1.0 more up (le-ltb 0 m (omega (arith, w.0.left)))))
-    c.if1.branch
+    (λ w. rw (w.ends-is, w.n-is, w.at-is) (bounding_hit l.invariant a.requires.1.0 more up (lt-ltb 0 m (omega (arith, w.if-marks-k-ne0.true)))))
+    (λ w. rw (w.ends-is, w.n-is, w.at-is) (bounding_skip l.invariant a.requires.1.0 more up (le-ltb 0 m (omega (arith, w.if-marks-k-ne0.false)))))
+    c.if-marks-k-ne0.branch-raw
 
-same_length : tie.Need-same-length invariant-loop decreases-loop
-same_length c = c.before.loop.invariant.owes.long
+same_length : tie.Need-shape_of-ends invariant-loop decreases-loop
+same_length c = c.loop-k.invariant.owes.long
 
 returns : tie.Need-returns invariant-loop decreases-loop
-returns c = bounding_end c.before.loop.invariant c.before.before.requires.1.0 c.loop-test.false
+returns c = bounding_end c.loop-k.invariant c.requires.1.0 c.loop-k-test.false
 
-pub keep-ends-spec : {M : Type 1} → statement M
-keep-ends-spec =
+pub keep_ends_spec : {M : Type 1} → statement M
+keep_ends_spec =
     tie.close
     (tie.spec
     invariant-loop

@@ -8,58 +8,58 @@ use Rattle.shots.proofs.Movings.{Moving, moving_start, moving_hit, moving_skip, 
 use Rattle.shots.proofs.collection.keep_handles.Statement.{statement}
 use Rattle.shots.proofs.collection.keep_handles.Tie as tie
 
-abbrev invariant-loop : tie.invariant-loop
+abbrev invariant-loop : tie.invariant-loop-k
 invariant-loop marks handles₀ n₀ k₀ handles n k = Moving (λ h. h) marks handles₀ handles n k
 
-abbrev decreases-loop : tie.decreases-loop
+abbrev decreases-loop : tie.decreases-loop-k
 decreases-loop marks handles₀ n₀ k₀ handles n k = length marks - k
 
-loop-holds : tie.Need-loop-init invariant-loop decreases-loop
+loop-holds : tie.Need-loop-k-init invariant-loop decreases-loop
 loop-holds c = moving_start
 
-shared-slice-read-if1 : tie.Need-shared-slice-read-if1 invariant-loop decreases-loop
+shared-slice-read-if1 : tie.Need-bounds-marks-k invariant-loop decreases-loop
 shared-slice-read-if1 c = omega arith
 
-mul-handles : tie.Need-overflow-mul-handles invariant-loop decreases-loop
-mul-handles c = omega (arith, c.before.before.before.before.requires.0)
+mul-handles : tie.Need-offset_bounds-handles-k invariant-loop decreases-loop
+mul-handles c = omega (arith, c.requires.0)
 
-slice-read-handles : tie.Need-slice-read-handles invariant-loop decreases-loop
-slice-read-handles c = omega (arith, c.before.before.before.before.before.requires.1, c.before.before.before.before.loop.invariant.owes.long)
+slice-read-handles : tie.Need-bounds-handles-k invariant-loop decreases-loop
+slice-read-handles c = omega (arith, c.requires.1, c.loop-k.invariant.owes.long)
 
-mul-handles-2 : tie.Need-overflow-mul-handles-2 invariant-loop decreases-loop
-mul-handles-2 c = omega (arith, c.before.before.before.before.before.requires.0, c.before.before.before.before.loop.invariant.behind)
+mul-handles-2 : tie.Need-offset_bounds-handles-n invariant-loop decreases-loop
+mul-handles-2 c = omega (arith, c.requires.0, c.loop-k.invariant.behind)
 
-slice-write-handles : tie.Need-slice-write-handles invariant-loop decreases-loop
-slice-write-handles c = omega (arith, c.before.before.before.before.before.requires.1, c.before.before.before.before.loop.invariant.owes.long, c.before.before.before.before.loop.invariant.behind)
+slice-write-handles : tie.Need-bounds-handles-n invariant-loop decreases-loop
+slice-write-handles c = omega (arith, c.requires.1, c.loop-k.invariant.owes.long, c.loop-k.invariant.behind)
 
-add-n : tie.Need-overflow-add-n invariant-loop decreases-loop
-add-n c = omega (arith, c.before.before.before.before.before.requires.0, c.before.before.before.before.loop.invariant.behind)
+add-n : tie.Need-overflow_add-n invariant-loop decreases-loop
+add-n c = omega (arith, c.requires.0, c.loop-k.invariant.behind)
 
-add-k : tie.Need-overflow-add-k invariant-loop decreases-loop
-add-k c = omega (arith, c.before.before.before.before.requires.0)
+add-k : tie.Need-overflow_add-k invariant-loop decreases-loop
+add-k c = omega (arith, c.requires.0)
 
-loop-less : tie.Need-loop-smaller invariant-loop decreases-loop
+loop-less : tie.Need-loop-k-smaller invariant-loop decreases-loop
 loop-less c = omega arith
 
-loop-again : tie.Need-loop-preserved invariant-loop decreases-loop
+loop-again : tie.Need-loop-k-preserved invariant-loop decreases-loop
 loop-again c =
-    let a = c.before.before.before.before in
-    let l = c.before.before.before.loop in
-    let more = c.before.before.loop-test.true in
+    let a = c in
+    let l = c.loop-k in
+    let more = c.loop-k-test.true in
     let m = get_or a.args.marks.now l.k 0 in
     ⊎_elim
-    (λ w. rw (w.2, w.3) (moving_hit l.invariant a.requires.1 more (lt-ltb 0 m (omega (arith, w.0.taken)))))
-    (λ w. rw (w.1, w.2) (moving_skip l.invariant a.requires.1 more (le-ltb 0 m (omega (arith, w.0.left)))))
-    c.if1.branch
+    (λ w. rw (w.handles-is, w.n-is) (moving_hit l.invariant a.requires.1 more (lt-ltb 0 m (omega (arith, w.if-marks-k-ne0.true)))))
+    (λ w. rw (w.handles-is, w.n-is) (moving_skip l.invariant a.requires.1 more (le-ltb 0 m (omega (arith, w.if-marks-k-ne0.false)))))
+    c.if-marks-k-ne0.branch-raw
 
-same_length : tie.Need-same-length invariant-loop decreases-loop
-same_length c = c.before.loop.invariant.owes.long
+same_length : tie.Need-shape_of-handles invariant-loop decreases-loop
+same_length c = c.loop-k.invariant.owes.long
 
 returns : tie.Need-returns invariant-loop decreases-loop
-returns c = moving_end c.before.loop.invariant c.before.before.requires.1 c.loop-test.false
+returns c = moving_end c.loop-k.invariant c.requires.1 c.loop-k-test.false
 
-pub keep-handles-spec : {M : Type 1} → statement M
-keep-handles-spec =
+pub keep_handles_spec : {M : Type 1} → statement M
+keep_handles_spec =
     tie.close
     (tie.spec
     invariant-loop

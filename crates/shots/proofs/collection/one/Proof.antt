@@ -4,11 +4,11 @@ use borrow.Author.Tests.{lt-ltb, le-ltb}
 use Rattle.shots.proofs.collection.one.Statement.{statement}
 use Rattle.shots.proofs.collection.one.Tie as tie
 
-returns : tie.Need-returns
-returns c = rw (le-ltb 0 c.before.args.mark (omega (arith, c.if1.true)))
+returns : tie.Need-returns-then-mark-eq0
+returns c = rw (le-ltb 0 c.args.mark (omega (arith, c.if-mark-eq0.true)))
 
-returns-2 : tie.Need-returns-2
-returns-2 c = rw (lt-ltb 0 c.before.args.mark (omega (arith, c.if1.false)))
+returns-2 : tie.Need-returns-else-mark-eq0
+returns-2 c = rw (lt-ltb 0 c.args.mark (omega (arith, c.if-mark-eq0.false)))
 
 pub one_spec : {M : Type 1} → statement M
 one_spec = tie.close (tie.spec returns returns-2)

@@ -5,47 +5,47 @@ use Rattle.shots.proofs.Movings.{Shifting, shifting_start, shifting_on, shifting
 use Rattle.shots.proofs.collection.shift.Statement.{statement}
 use Rattle.shots.proofs.collection.shift.Tie as tie
 
-abbrev invariant-loop : tie.invariant-loop
+abbrev invariant-loop : tie.invariant-loop-i
 invariant-loop names₀ from n o i₀ names i = Shifting from n o names₀ names i
 
-abbrev decreases-loop : tie.decreases-loop
+abbrev decreases-loop : tie.decreases-loop-i
 decreases-loop names₀ from n o i₀ names i = n - i
 
-loop-holds : tie.Need-loop-init invariant-loop decreases-loop
+loop-holds : tie.Need-loop-i-init invariant-loop decreases-loop
 loop-holds c = shifting_start
 
-add-names : tie.Need-overflow-add-names invariant-loop decreases-loop
-add-names c = let a = c.before.before in let i = c.before.loop in omega (arith, a.requires.0, a.requires.1, a.well-formed, i.invariant.owes.long)
+add-names : tie.Need-overflow_add-names invariant-loop decreases-loop
+add-names c = let a = c in let i = c.loop-i in omega (arith, a.requires.0, a.requires.1, a.well_formed, i.invariant.owes.long)
 
-slice-read-names : tie.Need-slice-read-names invariant-loop decreases-loop
-slice-read-names c = let a = c.before.before.before in let i = c.before.before.loop in omega (arith, a.requires.0, a.requires.1, a.well-formed, i.invariant.owes.long)
+slice-read-names : tie.Need-bounds-names-from invariant-loop decreases-loop
+slice-read-names c = let a = c in let i = c.loop-i in omega (arith, a.requires.0, a.requires.1, a.well_formed, i.invariant.owes.long)
 
-add-names-2 : tie.Need-overflow-add-names-2 invariant-loop decreases-loop
-add-names-2 c = let a = c.before.before.before in let i = c.before.before.loop in omega (arith, a.requires.0, a.requires.1, a.well-formed, i.invariant.owes.long)
+add-names-2 : tie.Need-overflow_add-names-in-loop-i invariant-loop decreases-loop
+add-names-2 c = let a = c in let i = c.loop-i in omega (arith, a.requires.0, a.requires.1, a.well_formed, i.invariant.owes.long)
 
-slice-write-names : tie.Need-slice-write-names invariant-loop decreases-loop
-slice-write-names c = let a = c.before.before.before in let i = c.before.before.loop in omega (arith, a.requires.0, a.requires.1, a.well-formed, i.invariant.owes.long)
+slice-write-names : tie.Need-bounds-names-o invariant-loop decreases-loop
+slice-write-names c = let a = c in let i = c.loop-i in omega (arith, a.requires.0, a.requires.1, a.well_formed, i.invariant.owes.long)
 
-add-i : tie.Need-overflow-add-i invariant-loop decreases-loop
-add-i c = let a = c.before.before.before in let i = c.before.before.loop in omega (arith, a.requires.0, a.requires.1, a.well-formed, i.invariant.owes.long)
+add-i : tie.Need-overflow_add-i invariant-loop decreases-loop
+add-i c = let a = c in let i = c.loop-i in omega (arith, a.requires.0, a.requires.1, a.well_formed, i.invariant.owes.long)
 
-loop-less : tie.Need-loop-smaller invariant-loop decreases-loop
+loop-less : tie.Need-loop-i-smaller invariant-loop decreases-loop
 loop-less c = omega arith
 
-loop-again : tie.Need-loop-preserved invariant-loop decreases-loop
-loop-again c = let a = c.before.before.before in shifting_on c.before.before.loop.invariant a.requires.0 a.requires.1 c.before.loop-test.true
+loop-again : tie.Need-loop-i-preserved invariant-loop decreases-loop
+loop-again c = let a = c in shifting_on c.loop-i.invariant a.requires.0 a.requires.1 c.loop-i-test.true
 
-add-result : tie.Need-overflow-add-result invariant-loop decreases-loop
-add-result c = let a = c.before.before in let i = c.before.loop in omega (arith, a.requires.0, a.requires.1, a.well-formed, i.invariant.owes.long, i.invariant.within)
+add-result : tie.Need-overflow_add-result invariant-loop decreases-loop
+add-result c = let a = c in let i = c.loop-i in omega (arith, a.requires.0, a.requires.1, a.well_formed, i.invariant.owes.long, i.invariant.within)
 
-same_length : tie.Need-same-length invariant-loop decreases-loop
-same_length c = c.before.loop.invariant.owes.long
+same_length : tie.Need-shape_of-names invariant-loop decreases-loop
+same_length c = c.loop-i.invariant.owes.long
 
 returns : tie.Need-returns invariant-loop decreases-loop
-returns c = let a = c.before.before in shifting_end c.before.loop.invariant a.requires.0 a.requires.1 c.loop-test.false
+returns c = let a = c in shifting_end c.loop-i.invariant a.requires.0 a.requires.1 c.loop-i-test.false
 
-pub shift-spec : {M : Type 1} → statement M
-shift-spec =
+pub shift_spec : {M : Type 1} → statement M
+shift_spec =
     tie.close
     (tie.spec
     invariant-loop

@@ -12,21 +12,21 @@ use Rattle.shots.proofs.Falls.{Downward, downward_end}
 use Rattle.shots.proofs.deletion.fall_queue.Statement.{statement}
 use Rattle.shots.proofs.deletion.fall_queue.Tie as tie
 
-abbrev invariant-loop : tie.invariant-loop
+abbrev invariant-loop : tie.invariant-loop-i
 invariant-loop parents marks first next places₀ place count₀ i₀ places count i = Downward parents (live marks) place places₀ places count i × (length parents ≤ length places₀)
 
-abbrev decreases-loop : tie.decreases-loop
+abbrev decreases-loop : tie.decreases-loop-i
 decreases-loop parents marks first next places₀ place count₀ i₀ places count i = length parents - i
 
-cast-places : tie.Need-overflow-cast-places invariant-loop decreases-loop
-cast-places c = let b = c.before.before.before.before.before in let h = b.requires.1.0.place b.args.place b.requires.1.1.1.1 in omega (arith, b.requires.0.few)
+cast-places : tie.Need-overflow_cast-places invariant-loop decreases-loop
+cast-places c = let b = c in let h = b.requires.1.0.place b.args.place b.requires.1.1.1.1 in omega (arith, b.requires.0.few)
 
-slice-write-places : tie.Need-slice-write-places invariant-loop decreases-loop
-slice-write-places c = let b = c.before.before.before.before.before in omega (arith, b.requires.0.some, b.requires.1.1.1.0)
+slice-write-places : tie.Need-bounds-places-0 invariant-loop decreases-loop
+slice-write-places c = let b = c in omega (arith, b.requires.0.some, b.requires.1.1.1.0)
 
-loop-holds : tie.Need-loop-init invariant-loop decreases-loop
+loop-holds : tie.Need-loop-i-init invariant-loop decreases-loop
 loop-holds c =
-    let b = c.before.before.before.before.before in
+    let b = c in
     let a = b.args in
     let rule = b.requires.0 in
     let long = length-set a.places.now 0 a.place in
@@ -34,69 +34,69 @@ loop-holds c =
     (record { list = a.place ∷ []; queue = queue_start a.parents.now rule _ b.requires.1.0 b.requires.1.1.1.1 a.places.now (omega (arith, rule.some)) }, omega arith)
 
 -- in a turn: the place whose turn it is is one, and the queue fits
-in-turn : (c : tie.In-loop invariant-loop decreases-loop) →
-    let b = c.before.before.before.before.before.before.before in
-    let l = c.before.loop in
+in-turn : (c : tie.In-loop-i invariant-loop decreases-loop) →
+    let b = c in
+    let l = c.loop-i in
     (get_or l.places l.i 0 < length b.args.parents.now) × (l.count ≤ length b.args.parents.now) × (length b.args.parents.now ≤ length l.places) × (length b.args.parents.now ≤ 1024)
 in-turn c =
-    let b = c.before.before.before.before.before.before.before in
-    let l = c.before.loop in
+    let b = c in
+    let l = c.loop-i in
     let q = l.invariant.0.queue in
     let living = b.requires.1.1.1.1 in
     let long = queue_long _ b.requires.0 _ b.requires.1.0 living q l.invariant.1 in
-    (queue_place _ b.requires.0 _ b.requires.1.0 living q c.loop-test.true, queue_fits _ b.requires.0 _ b.requires.1.0 living q, omega (arith, l.invariant.1), b.requires.0.few)
+    (queue_place _ b.requires.0 _ b.requires.1.0 living q c.loop-i-test.true, queue_fits _ b.requires.0 _ b.requires.1.0 living q, omega (arith, l.invariant.1), b.requires.0.few)
 
-mul-p : tie.Need-overflow-mul-p invariant-loop decreases-loop
-mul-p c = let t = in-turn c in omega (arith, c.loop-test.true)
+mul-p : tie.Need-offset_bounds-places-i invariant-loop decreases-loop
+mul-p c = let t = in-turn c in omega (arith, c.loop-i-test.true)
 
-slice-read-p : tie.Need-slice-read-p invariant-loop decreases-loop
-slice-read-p c = let t = in-turn c.before in omega (arith, c.before.loop-test.true)
+slice-read-p : tie.Need-bounds-places-i invariant-loop decreases-loop
+slice-read-p c = let t = in-turn c.before in omega (arith, c.loop-i-test.true)
 
-cast-p : tie.Need-overflow-cast-p invariant-loop decreases-loop
+cast-p : tie.Need-overflow_cast-p invariant-loop decreases-loop
 cast-p c = let t = in-turn c.before in omega arith
 
-mul-put-chain : tie.Need-overflow-mul-put-chain invariant-loop decreases-loop
+mul-put-chain : tie.Need-offset_bounds-first-p invariant-loop decreases-loop
 mul-put-chain c = let t = in-turn c.before in omega arith
 
-shared-slice-read-put-chain : tie.Need-shared-slice-read-put-chain invariant-loop decreases-loop
-shared-slice-read-put-chain c = let t = in-turn c.before.before in omega (arith, c.before.before.before.before.before.before.before.before.before.requires.1.1.0.firsts)
+shared-slice-read-put-chain : tie.Need-bounds-first-p invariant-loop decreases-loop
+shared-slice-read-put-chain c = let t = in-turn c.before.before in omega (arith, c.requires.1.1.0.firsts)
 
-put-chain-requires : tie.Need-put-chain-requires invariant-loop decreases-loop
+put-chain-requires : tie.Need-put_chain-count-requires invariant-loop decreases-loop
 put-chain-requires c κs = search rules
 
-add-i : tie.Need-overflow-add-i invariant-loop decreases-loop
-add-i c = let t = in-turn c.before.before.before.before.before.before in omega (arith, c.before.before.before.before.before.before.loop-test.true)
+add-i : tie.Need-overflow_add-i invariant-loop decreases-loop
+add-i c = let t = in-turn c.before.before.before.before.before.before in omega (arith, c.loop-i-test.true)
 
-loop-less : tie.Need-loop-smaller invariant-loop decreases-loop
-loop-less c = let t = in-turn c.before.before.before.before.before.before in omega (arith, c.before.before.before.before.before.before.loop-test.true)
+loop-less : tie.Need-loop-i-smaller invariant-loop decreases-loop
+loop-less c = let t = in-turn c.before.before.before.before.before.before in omega (arith, c.loop-i-test.true)
 
-loop-again : tie.Need-loop-preserved invariant-loop decreases-loop
+loop-again : tie.Need-loop-i-preserved invariant-loop decreases-loop
 loop-again c =
-    let e = c.before.before.before.before.before.before in
-    let l = e.before.loop in
-    let b = e.before.before.before.before.before.before.before in
+    let e = c in
+    let l = e.loop-i in
+    let b = e in
     let rule = b.requires.0 in
     let marks = b.requires.1.0 in
     let living = b.requires.1.1.1.1 in
-    let more = e.loop-test.true in
+    let more = e.loop-i-test.true in
     let q = l.invariant.0.queue in
     let room = queue_room _ rule _ marks living q more in
-    let t = in-turn e in
+    let t = in-turn c.before.before.before.before.before.before in
     let chain = chain_kids b.requires.1.1.0 (get_or l.places l.i 0) rule (length l.places - l.count) (omega arith) in
-    (record { list = _; queue = queue_turn _ rule _ marks living q more l.invariant.1 (rw chain at c.before.before.put-chain.ensures) }, l.invariant.1)
+    (record { list = _; queue = queue_turn _ rule _ marks living q more l.invariant.1 (rw chain at c.put_chain-count.ensures) }, l.invariant.1)
 
-same_length : tie.Need-same-length invariant-loop decreases-loop
+same_length : tie.Need-shape_of-places invariant-loop decreases-loop
 same_length c =
-    let b = c.before.before.before.before.before.before.before in
-    queue_long _ b.requires.0 _ b.requires.1.0 b.requires.1.1.1.1 c.before.loop.invariant.0.queue c.before.loop.invariant.1 ∙ length-set b.args.places.now 0 b.args.place
+    let b = c in
+    queue_long _ b.requires.0 _ b.requires.1.0 b.requires.1.1.1.1 c.loop-i.invariant.0.queue c.loop-i.invariant.1 ∙ length-set b.args.places.now 0 b.args.place
 
 returns : tie.Need-returns invariant-loop decreases-loop
 returns c =
-    let b = c.before.before.before.before.before.before.before in
-    downward_end b.requires.0 b.requires.1.0 b.requires.1.1.1.1 b.requires.1.1.1.0 c.before.loop.invariant.0 c.loop-test.false
+    let b = c in
+    downward_end b.requires.0 b.requires.1.0 b.requires.1.1.1.1 b.requires.1.1.1.0 c.loop-i.invariant.0 c.loop-i-test.false
 
-pub fall-queue-spec : {M : Type 1} → statement M
-fall-queue-spec =
+pub fall_queue_spec : {M : Type 1} → statement M
+fall_queue_spec =
     tie.close
     (tie.spec
     invariant-loop

@@ -18,22 +18,22 @@ off false = refl
 nonzero : (n : ℕ) → not (eqb n 0) ≡ ltb 0 n
 nonzero n = equal n 0 (λ e. rw e) (λ e. rw (ne_eqb n 0 e, lt-ltb 0 n (omega arith)))
 
-returns : tie.Need-returns
-returns c = rw (le-ltb 0 c.before.args.place (omega arith))
+returns : tie.Need-returns-then-place-eq0
+returns c = rw (le-ltb 0 c.args.place (omega arith))
 
-returns-2 : tie.Need-returns-2
+returns-2 : tie.Need-returns-then-marks-place
 returns-2 c =
-    let a = c.before.before.args in
-    let z : get_or a.marks.now a.place 0 ≡ 0 = get_or-eq_default a.marks.now 0 (omega (arith, c.if2.true)) in
+    let a = c.args in
+    let z : get_or a.marks.now a.place 0 ≡ 0 = get_or-eq_default a.marks.now 0 (omega (arith, c.if-marks-place.true)) in
     sym (rw z (off (ltb 0 a.place)))
 
-shared-slice-read-result : tie.Need-shared-slice-read-result
+shared-slice-read-result : tie.Need-bounds-marks-place
 shared-slice-read-result c = search rules
 
-returns-3 : tie.Need-returns-3
+returns-3 : tie.Need-returns
 returns-3 c =
-    let a = c.before.before.before.args in
-    rw (lt-ltb 0 a.place (omega (arith, c.before.before.if1.false))) (nonzero (get_or a.marks.now a.place 0))
+    let a = c.args in
+    rw (lt-ltb 0 a.place (omega (arith, c.if-place-eq0.false))) (nonzero (get_or a.marks.now a.place 0))
 
-pub may-end-spec : {M : Type 1} → statement M
-may-end-spec = tie.close (tie.spec returns returns-2 shared-slice-read-result returns-3)
+pub may_end_spec : {M : Type 1} → statement M
+may_end_spec = tie.close (tie.spec returns returns-2 shared-slice-read-result returns-3)

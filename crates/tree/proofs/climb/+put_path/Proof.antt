@@ -25,46 +25,46 @@ put-path-at t = and 4 put-path-kinds.ps (is 4 put-path-kinds.ps μ-put-path t) p
 abbrev put-path-below : ℕ → In 4 put-path-kinds.ps
 put-path-below t = and 4 put-path-kinds.ps (falls 4 put-path-kinds.ps ◌<◌ μ-put-path t) put-path.Pre
 
-pub +put-path-spec : {M : Type 1} → statement M
-+put-path-spec = close μ-put-path λ t. put-path-lts.spec (put-name-reads.Asked, put-name-reads.Learnt, put-path-below t, put-path.Post, slash-reads.Asked, slash-reads.Learnt) (put-path-at t) put-path.Post
+pub +put_path_spec : {M : Type 1} → statement M
++put_path_spec = close μ-put-path λ t. put-path-lts.spec (put-name-reads.Asked, put-name-reads.Learnt, put-path-below t, put-path.Post, slash-reads.Asked, slash-reads.Learnt) (put-path-at t) put-path.Post
     -- at the root
     (λ c κs.
-    let k = c.before.before.before.before.before.before in
+    let k = c in
     let p = k.requires.1 in
-    let e = ap length (path_root k.args.parents.now k.args.ends.now k.args.names.now k.args.place c.before.if1.true) in
+    let e = ap length (path_root k.args.parents.now k.args.ends.now k.args.names.now k.args.place c.if-place-eq0.true) in
     (p.0.spaced, (omega (arith, p.0.ended), omega (arith, p.1.1))))
     (λ c. search rules)
     (λ c.
-    let k = c.before.before.before.before.before.before.before.before.before in
-    rw (path_root k.args.parents.now k.args.ends.now k.args.names.now k.args.place c.before.before.before.before.if1.true) c.before.before.put-name.ensures)
+    let k = c in
+    rw (path_root k.args.parents.now k.args.ends.now k.args.names.now k.args.place c.if-place-eq0.true) c.put_name.ensures)
     -- elsewhere: the parent's path
     (λ c. search rules)
     (λ c. search rules)
-    (λ c. omega (arith, c.shared-slice-known4.given c.before.before.before.before.before.before.args.place))
+    (λ c. omega (arith, c.shared_slice_known-4-1.given c.args.place))
     (λ c κs.
-    let k = c.before.before.before.before.before.before.before in
+    let k = c in
     let p = k.requires.1 in
-    let left = c.before.before.if1.false in
+    let left = c.if-place-eq0.false in
     let less = p.0.ruling.smaller k.args.place (omega (arith, left)) p.1.0 in
     let sum = size_step k.args.parents.now k.args.ends.now k.args.names.now p.0.ruling k.args.place left p.1.0 in
     (omega arith, (p.0, (omega arith, omega (arith, p.1.1)))))
     (λ c κs. search rules)
     -- the slash and the name
     (λ c κs.
-    let s = c.before.before.before in
-    let q = s.before.before.before.before in
-    let k = q.before.before.before.before.before.before.before.before in
+    let s = c in
+    let q = s in
+    let k = q in
     let p = k.requires.1 in
-    let sum = size_step k.args.parents.now k.args.ends.now k.args.names.now p.0.ruling k.args.place q.before.before.before.if1.false p.1.0 in
-    let row = then_slash q.put-path.ensures s.slash.ensures (omega (arith, p.1.1)) in
+    let sum = size_step k.args.parents.now k.args.ends.now k.args.names.now p.0.ruling k.args.place q.if-place-eq0.false p.1.0 in
+    let row = then_slash q.put_path-a.ensures s.slash-b.ensures (omega (arith, p.1.1)) in
     (p.0.spaced, (omega (arith, p.0.ended), omega (arith, p.1.1, row.place, long row, simp length-append at row.place))))
     (λ c. search rules)
     (λ c.
-    let s = c.before.before.before.before.before.before in
-    let q = s.before.before.before.before in
-    let k = q.before.before.before.before.before.before.before.before in
+    let s = c in
+    let q = s in
+    let k = q in
     let p = k.requires.1 in
-    let left = q.before.before.before.if1.false in
+    let left = q.if-place-eq0.false in
     let sum = size_step k.args.parents.now k.args.ends.now k.args.names.now p.0.ruling k.args.place left p.1.0 in
-    let row = then_slash q.put-path.ensures s.slash.ensures (omega (arith, p.1.1)) in
-    rw (path_step k.args.parents.now k.args.ends.now k.args.names.now p.0.ruling k.args.place left p.1.0) (then row c.before.before.put-name2.ensures))
+    let row = then_slash q.put_path-a.ensures s.slash-b.ensures (omega (arith, p.1.1)) in
+    rw (path_step k.args.parents.now k.args.ends.now k.args.names.now p.0.ruling k.args.place left p.1.0) (then row c.put_name-2.ensures))

@@ -8,16 +8,16 @@ use Rattle.layout.proofs.laws.Writing.{in_room, nothing}
 use Rattle.tree.proofs.climb.slash.Statement.{statement}
 use Rattle.tree.proofs.climb.slash.Tie as tie
 
-returns : tie.Need-returns
+returns : tie.Need-returns-then-o-from
 returns c =
-    let a = c.before.before.args in
-    rw (eq-eqb a.o a.from c.if1.true, in_room a.out.now a.o [] (omega arith)) nothing
+    let a = c.args in
+    rw (eq-eqb a.o a.from c.if-o-from.true, in_room a.out.now a.o [] (omega arith)) nothing
 
-returns-2 : tie.Need-returns-2
+returns-2 : tie.Need-returns
 unfolding bytes
 returns-2 c =
-    let a = c.before.before.before.before.before.before.args in
-    rw (ne_eqb a.o a.from c.before.before.before.before.if1.false) c.before.before.store.ensures
+    let a = c.args in
+    rw (ne_eqb a.o a.from c.if-o-from.false) c.store.ensures
 
-pub slash-spec : {M : Type 1} → statement M
-slash-spec = tie.close (tie.spec returns (λ c κs. search rules) (λ c. search rules) returns-2)
+pub slash_spec : {M : Type 1} → statement M
+slash_spec = tie.close (tie.spec returns (λ c κs. search rules) (λ c. search rules) returns-2)

@@ -5,10 +5,10 @@ use Rattle.tree.proofs.Copied.{Copying, begun, one_more, all}
 use Rattle.tree.proofs.every.again.Statement.{statement}
 use Rattle.tree.proofs.every.again.Tie as tie
 
-abbrev invariant-loop : tie.invariant-loop
+abbrev invariant-loop : tie.invariant-loop-i
 invariant-loop out₀ from n o i₀ out i = Copying from n o out₀ out i
 
-abbrev decreases-loop : tie.decreases-loop
+abbrev decreases-loop : tie.decreases-loop-i
 decreases-loop out₀ from n o i₀ out i = n - i
 
 pub again_spec : {M : Type 1} → statement M
@@ -18,13 +18,13 @@ again_spec =
     invariant-loop
     decreases-loop
     (λ c. begun _ _ _ _ c.requires.0 c.requires.1)
-    (λ c. let a = c.before.before in let i = c.before.loop in omega (arith, a.requires.0, a.requires.1, a.well-formed, i.invariant.owes.long, i.invariant.within))
-    (λ c. let a = c.before.before.before in let i = c.before.before.loop in omega (arith, a.requires.0, a.requires.1, a.well-formed, i.invariant.owes.long, i.invariant.within))
-    (λ c. let a = c.before.before.before in let i = c.before.before.loop in omega (arith, a.requires.0, a.requires.1, a.well-formed, i.invariant.owes.long, i.invariant.within))
-    (λ c. let a = c.before.before.before in let i = c.before.before.loop in omega (arith, a.requires.0, a.requires.1, a.well-formed, i.invariant.owes.long, i.invariant.within))
-    (λ c. let a = c.before.before.before in let i = c.before.before.loop in omega (arith, a.requires.0, a.requires.1, a.well-formed, i.invariant.owes.long, i.invariant.within))
+    (λ c. let a = c in let i = c.loop-i in omega (arith, a.requires.0, a.requires.1, a.well_formed, i.invariant.owes.long, i.invariant.within))
+    (λ c. let a = c in let i = c.loop-i in omega (arith, a.requires.0, a.requires.1, a.well_formed, i.invariant.owes.long, i.invariant.within))
+    (λ c. let a = c in let i = c.loop-i in omega (arith, a.requires.0, a.requires.1, a.well_formed, i.invariant.owes.long, i.invariant.within))
+    (λ c. let a = c in let i = c.loop-i in omega (arith, a.requires.0, a.requires.1, a.well_formed, i.invariant.owes.long, i.invariant.within))
+    (λ c. let a = c in let i = c.loop-i in omega (arith, a.requires.0, a.requires.1, a.well_formed, i.invariant.owes.long, i.invariant.within))
     (λ c. omega arith)
-    (λ c. let a = c.before.before.before in let i = c.before.before.loop in one_more _ _ _ _ a.requires.0 a.requires.1 i.invariant c.before.loop-test.true)
-    (λ c. let a = c.before.before in let i = c.before.loop in omega (arith, a.requires.0, a.requires.1, a.well-formed, i.invariant.owes.long, i.invariant.within))
-    (λ c. c.before.loop.invariant.owes.long)
-    (λ c. let a = c.before.before in all _ _ _ _ a.requires.0 a.requires.1 c.before.loop.invariant c.loop-test.false))
+    (λ c. let a = c in let i = c.loop-i in one_more _ _ _ _ a.requires.0 a.requires.1 i.invariant c.loop-i-test.true)
+    (λ c. let a = c in let i = c.loop-i in omega (arith, a.requires.0, a.requires.1, a.well_formed, i.invariant.owes.long, i.invariant.within))
+    (λ c. c.loop-i.invariant.owes.long)
+    (λ c. let a = c in all _ _ _ _ a.requires.0 a.requires.1 c.loop-i.invariant c.loop-i-test.false))

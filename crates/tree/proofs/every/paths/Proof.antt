@@ -10,73 +10,73 @@ use Rattle.tree.proofs.every.paths.Statement.{statement}
 use Rattle.tree.proofs.every.paths.Tie as tie
 
 -- the table that was accepted
-abbrev asked : tie.After-enum-told → Table
+abbrev asked : tie.In-Whole → Table
 asked e =
-    let a = e.before.before.before.before.before.before.before.before.before.before.args in
+    let a = e.args in
     table a.handles.now a.parents.now a.ends.now a.marks.now a.count a.names.now
 
-heard-of : (e : tie.After-enum-told) → got tt e.enum_told.given.0.0 ≡ table_at (asked e)
-heard-of e = heard says_checked e.enum_told.given.1 e.before.before.check-table.ensures
+heard-of : (e : tie.In-Whole) → got tt e.in-Whole.field-0 ≡ table_at (asked e)
+heard-of e = heard says_checked e.in-Whole.is e.check_table.ensures
 
-whole : (e : tie.After-enum-told) → Sound (asked e)
+whole : (e : tie.In-Whole) → Sound (asked e)
 whole e = accepted (asked e) (heard-of e)
 
-check-table-requires : tie.Need-check-table-requires
+check-table-requires : tie.Need-check_table-requires
 check-table-requires c κs = search rules
 
-enum_told : tie.Need-enum-told
+enum_told : tie.Need-enum_told-1
 enum_told c = search rules
 
-slice-aggregate-walk-made : tie.Need-slice-aggregate-walk-made
-slice-aggregate-walk-made c = rows_long (whole c.before)
+slice-aggregate-walk-made : tie.Need-slice_bounds-walk_made-end
+slice-aggregate-walk-made c = rows_long (whole c)
 
-slice-aggregate-walk-made-2 : tie.Need-slice-aggregate-walk-made-2
-slice-aggregate-walk-made-2 c = marks_long (whole c.before.before)
+slice-aggregate-walk-made-2 : tie.Need-slice_bounds-walk_made-end-in-Whole
+slice-aggregate-walk-made-2 c = marks_long (whole c)
 
-slice-aggregate-walk-made-3 : tie.Need-slice-aggregate-walk-made-3
+slice-aggregate-walk-made-3 : tie.Need-slice_bounds-walk_made-end-in-Whole-2
 slice-aggregate-walk-made-3 c = search rules
 
-walk-made-requires : tie.Need-walk-made-requires
-walk-made-requires c κs = let s = whole c.before.before.before in (s.kept.ruling, (even s, (s.marks, s.kept.ruling.few)))
+walk-made-requires : tie.Need-walk_made-n-requires
+walk-made-requires c κs = let s = whole c.before in (s.kept.ruling, (even s, (s.marks, s.kept.ruling.few)))
 
-slice-aggregate-give-paths : tie.Need-slice-aggregate-give-paths
-slice-aggregate-give-paths c = rows_long (whole c.before.before.before.before.before.before)
+slice-aggregate-give-paths : tie.Need-slice_bounds-give_paths-end
+slice-aggregate-give-paths c = rows_long (whole c.before.before.before)
 
-slice-aggregate-give-paths-2 : tie.Need-slice-aggregate-give-paths-2
-slice-aggregate-give-paths-2 c = stops_long (whole c.before.before.before.before.before.before.before)
+slice-aggregate-give-paths-2 : tie.Need-slice_bounds-give_paths-end-in-Whole
+slice-aggregate-give-paths-2 c = stops_long (whole c.before.before.before)
 
-array-share-prefix-places : tie.Need-array-share-prefix-places
-array-share-prefix-places c = (front c.before.before.before.walk-made.ensures).2
+array-share-prefix-places : tie.Need-slice_bounds-places-end
+array-share-prefix-places c = (front c.walk_made-n.ensures).2
 
-slice-aggregate-give-paths-3 : tie.Need-slice-aggregate-give-paths-3
-slice-aggregate-give-paths-3 c = sym (front c.before.before.before.before.walk-made.ensures).1
+slice-aggregate-give-paths-3 : tie.Need-slice_bounds-give_paths-end-in-Whole-2
+slice-aggregate-give-paths-3 c = sym (front c.walk_made-n.ensures).1
 
-give-paths-requires : tie.Need-give-paths-requires
+give-paths-requires : tie.Need-give_paths-requires
 give-paths-requires c κs =
-    let w = c.before.before.before.before.before.before in
-    let s = whole w.before.before.before.before in
-    listing s.kept s.marks (front w.walk-made.ensures).0
+    let w = c in
+    let s = whole c.before.before.before.before.before.before in
+    listing s.kept s.marks (front w.walk_made-n.ensures).0
 
-enum-known-f : tie.Need-enum-known-f
+enum-known-f : tie.Need-enum_known-f
 enum-known-f c = search rules
 
-same_length : tie.Need-same-length
+same_length : tie.Need-shape_of-out
 same_length c = search rules
 
-same-length-2 : tie.Need-same-length-2
+same-length-2 : tie.Need-shape_of-out_ends
 same-length-2 c = search rules
 
-returns : tie.Need-returns
+returns : tie.Need-returns-in-Whole
 returns c =
-    let w = c.before.before.before.before.before.before.before.before.before.before.before in
-    let e = w.before.before.before.before in
-    all_given (asked e) _ _ (heard-of e) (front w.walk-made.ensures).0 c.before.before.before.before.give-paths.ensures
+    let w = c in
+    let e = w in
+    all_given (asked c.before.before.before.before.before.before.before.before.before.before.before) _ _ (heard-of c.before.before.before.before.before.before.before.before.before.before.before) (front w.walk_made-n.ensures).0 c.give_paths.ensures
 
-returns-2 : tie.Need-returns-2
-returns-2 c = all_refused _ _ _ (heard says_checked c.before.f.given.1 c.before.before.before.check-table.ensures)
+returns-2 : tie.Need-returns-in-Refused
+returns-2 c = all_refused _ _ _ (heard says_checked c.in-Refused.is c.check_table.ensures)
 
-pub paths-spec : {M : Type 1} → statement M
-paths-spec =
+pub paths_spec : {M : Type 1} → statement M
+paths_spec =
     tie.close
     (tie.spec
     check-table-requires

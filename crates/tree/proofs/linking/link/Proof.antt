@@ -12,82 +12,82 @@ use Rattle.tree.proofs.laws.Sound.{Sound, accepted, rows_long, marks_long, even}
 use Rattle.tree.proofs.linking.link.Statement.{statement}
 use Rattle.tree.proofs.linking.link.Tie as tie
 
-abbrev asked : tie.After-n → Table
+abbrev asked : tie.In-Whole → Table
 asked e =
-    let a = e.before.before.before.before.before.before.before.before.before.before.before.before.args in
+    let a = e.args in
     table a.handles.now a.parents.now a.ends.now a.marks.now a.count a.names.now
 
-heard-of : (e : tie.After-n) → got tt e.n.given.0.0 ≡ table_at (asked e)
-heard-of e = heard says_checked e.n.given.1 e.before.before.check-table.ensures
+heard-of : (e : tie.In-Whole) → got tt e.in-Whole.n ≡ table_at (asked e)
+heard-of e = heard says_checked e.in-Whole.is e.check_table.ensures
 
-whole : (e : tie.After-n) → Sound (asked e)
+whole : (e : tie.In-Whole) → Sound (asked e)
 whole e = accepted (asked e) (heard-of e)
 
 plain-requires : tie.Need-plain-requires
 plain-requires c κs = search rules
 
-returns : tie.Need-returns
-returns c = linked_refused _ _ _ (ap refused c.plain.ensures ∙ sym (link_first _ _ _ c.before.if1.true))
+returns : tie.Need-returns-then-first-ne1024
+returns c = linked_refused _ _ _ (ap refused c.plain.ensures ∙ sym (link_first _ _ _ c.if-first-ne1024.true))
 
-plain-requires-2 : tie.Need-plain-requires-2
+plain-requires-2 : tie.Need-plain-requires-then-next-ne1024
 plain-requires-2 c κs = search rules
 
-returns-2 : tie.Need-returns-2
-returns-2 c = linked_refused _ _ _ (ap refused c.plain2.ensures ∙ sym (link_next _ _ _ c.before.before.if1.false c.before.if2.true))
+returns-2 : tie.Need-returns-then-next-ne1024
+returns-2 c = linked_refused _ _ _ (ap refused c.plain-then-next-ne1024.ensures ∙ sym (link_next _ _ _ c.if-first-ne1024.false c.if-next-ne1024.true))
 
-check-table-requires : tie.Need-check-table-requires
+check-table-requires : tie.Need-check_table-requires
 check-table-requires c κs = search rules
 
-enum-known-n : tie.Need-enum-known-n
+enum-known-n : tie.Need-enum_known-n
 enum-known-n c = search rules
 
 clear-requires : tie.Need-clear-requires
 clear-requires c κs = search rules
 
-clear-requires-2 : tie.Need-clear-requires-2
+clear-requires-2 : tie.Need-clear-requires-in-Whole
 clear-requires-2 c κs = search rules
 
-slice-aggregate-link-ruled : tie.Need-slice-aggregate-link-ruled
-slice-aggregate-link-ruled c = rows_long (whole c.before.before.before.before.before.before.before.before.before.before)
+slice-aggregate-link-ruled : tie.Need-slice_bounds-link_ruled-end
+slice-aggregate-link-ruled c = rows_long (whole c.before.before.before.before.before.before.before.before)
 
-slice-aggregate-link-ruled-2 : tie.Need-slice-aggregate-link-ruled-2
-slice-aggregate-link-ruled-2 c = marks_long (whole c.before.before.before.before.before.before.before.before.before.before.before)
+slice-aggregate-link-ruled-2 : tie.Need-slice_bounds-link_ruled-end-in-Whole
+slice-aggregate-link-ruled-2 c = marks_long (whole c.before.before.before.before.before.before.before.before)
 
-link-ruled-requires : tie.Need-link-ruled-requires
+link-ruled-requires : tie.Need-link_ruled-requires
 link-ruled-requires c κs =
-    let f = c.before.before.before.before.before.before.before.before.before.before in
-    let n = c.before.before.before.before.before.before in
-    let e = f.before.before.before in
-    let s = whole e in
-    let d = e.before.before.before in
-    (s.kept.ruling, (even s, unlinked _ _ s.marks.place (f.clear.ensures.0 ∙ d.before.if1.false) (n.clear2.ensures.0 ∙ d.if2.false) f.clear.ensures.1 n.clear2.ensures.1))
+    let f = c in
+    let n = c in
+    let e = f in
+    let s = whole c.before.before.before.before.before.before.before.before.before.before in
+    let d = e in
+    (s.kept.ruling, (even s, unlinked _ _ s.marks.place (f.clear.ensures.0 ∙ d.if-first-ne1024.false) (n.clear-in-Whole.ensures.0 ∙ d.if-next-ne1024.false) f.clear.ensures.1 n.clear-in-Whole.ensures.1))
 
-enum-known-f : tie.Need-enum-known-f
+enum-known-f : tie.Need-enum_known-f
 enum-known-f c = search rules
 
-same_length : tie.Need-same-length
+same_length : tie.Need-shape_of-first
 same_length c = search rules
 
-same-length-2 : tie.Need-same-length-2
+same-length-2 : tie.Need-shape_of-next
 same-length-2 c = search rules
 
-returns-3 : tie.Need-returns-3
+returns-3 : tie.Need-returns-in-Whole
 returns-3 c =
-    let e = c.before.before.before.before.before.before.before.before.before.before.before.before.before.before.before.before.before.before in
-    let d = e.before.before.before in
-    let s = whole e in
+    let e = c in
+    let d = e in
+    let s = whole c.before.before.before.before.before.before.before.before.before.before.before.before.before.before.before in
     record {
-      answers = heard-of e ∙ sym (link_both _ _ _ d.before.if1.false d.if2.false);
-      left = relinked (linking_links s.marks c.before.before.before.before.link-ruled.ensures);
+      answers = heard-of c.before.before.before.before.before.before.before.before.before.before.before.before.before.before.before ∙ sym (link_both _ _ _ d.if-first-ne1024.false d.if-next-ne1024.false);
+      left = relinked (linking_links s.marks c.link_ruled.ensures);
     }
 
-returns-4 : tie.Need-returns-4
+returns-4 : tie.Need-returns-in-Refused
 returns-4 c =
-    let d = c.before.before.before.before in
-    linked_refused _ _ _ (heard says_checked c.before.f.given.1 c.before.before.before.check-table.ensures ∙ sym (link_both _ _ _ d.before.if1.false d.if2.false))
+    let d = c in
+    linked_refused _ _ _ (heard says_checked c.in-Refused.is c.check_table.ensures ∙ sym (link_both _ _ _ d.if-first-ne1024.false d.if-next-ne1024.false))
 
-pub link-spec : {M : Type 1} → statement M
-link-spec =
+pub link_spec : {M : Type 1} → statement M
+link_spec =
     tie.close
     (tie.spec
     plain-requires

@@ -5,11 +5,11 @@ use lib.ListN.{get_or-eq_default}
 use Rattle.tree.proofs.linking.link_of.Statement.{statement}
 use Rattle.tree.proofs.linking.link_of.Tie as tie
 
-pub link-of-spec : {M : Type 1} → statement M
-link-of-spec =
+pub link_of_spec : {M : Type 1} → statement M
+link_of_spec =
     tie.close
     (tie.spec
     (λ c. search rules)
     (λ c. search rules)
     (λ c. search rules)
-    (λ c. sym (get_or-eq_default c.before.args.next.now 0 c.if1.false)))
+    (λ c. sym (get_or-eq_default c.args.next.now 0 c.if-at-next.false)))

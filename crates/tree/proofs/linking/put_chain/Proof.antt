@@ -9,54 +9,54 @@ use Rattle.tree.proofs.laws.Chains.{chain_zero, chain_full, chain_turn}
 use Rattle.tree.proofs.linking.put_chain.Statement.{statement}
 use Rattle.tree.proofs.linking.put_chain.Tie as tie
 
-abbrev invariant-loop : tie.invariant-loop
+abbrev invariant-loop : tie.invariant-loop-n
 invariant-loop next from places₀ count n₀ k₀ places n k =
     Owes places n (chain_in (length places₀ - n) next k) places₀ count (chain_in (length places₀ - count) next from)
 
-abbrev decreases-loop : tie.decreases-loop
+abbrev decreases-loop : tie.decreases-loop-n
 decreases-loop next from places₀ count n₀ k₀ places n k = length places₀ - n
 
-loop-holds : tie.Need-loop-init invariant-loop decreases-loop
+loop-holds : tie.Need-loop-n-init invariant-loop decreases-loop
 loop-holds c = start
 
-same_length : tie.Need-same-length invariant-loop decreases-loop
-same_length c = c.before.before.loop.invariant.long
+same_length : tie.Need-shape_of-places-then-k-eq0 invariant-loop decreases-loop
+same_length c = c.loop-n.invariant.long
 
-returns : tie.Need-returns invariant-loop decreases-loop
-returns c = end (chain_zero _ _ _ c.if1.true) c.before.before.loop.invariant
+returns : tie.Need-returns-then-k-eq0 invariant-loop decreases-loop
+returns c = end (chain_zero _ _ _ c.if-k-eq0.true) c.loop-n.invariant
 
-mul-places : tie.Need-overflow-mul-places invariant-loop decreases-loop
+mul-places : tie.Need-offset_bounds-places-n invariant-loop decreases-loop
 mul-places c = search rules
 
-slice-write-places : tie.Need-slice-write-places invariant-loop decreases-loop
+slice-write-places : tie.Need-bounds-places-n invariant-loop decreases-loop
 slice-write-places c = search rules
 
-add-n : tie.Need-overflow-add-n invariant-loop decreases-loop
+add-n : tie.Need-overflow_add-n invariant-loop decreases-loop
 add-n c = search rules
 
-link-of-requires : tie.Need-link-of-requires invariant-loop decreases-loop
+link-of-requires : tie.Need-link_of-k-requires invariant-loop decreases-loop
 link-of-requires c κs = search rules
 
-loop-less : tie.Need-loop-smaller invariant-loop decreases-loop
-loop-less c = omega (arith, c.before.before.before.loop.invariant.long, c.before.before.loop-test.true)
+loop-less : tie.Need-loop-n-smaller invariant-loop decreases-loop
+loop-less c = omega (arith, c.loop-n.invariant.long, c.loop-n-test.true)
 
-loop-again : tie.Need-loop-preserved invariant-loop decreases-loop
+loop-again : tie.Need-loop-n-preserved invariant-loop decreases-loop
 loop-again c =
-    let a = c.before.before.before.before.before.before.args in
-    let l = c.before.before.before.loop in
-    rw c.link-of.ensures
+    let a = c.args in
+    let l = c.loop-n in
+    rw c.link_of-k.ensures
     (byte
-    (chain_turn l.n (length a.places.now) a.next.now l.k (omega (arith, l.invariant.long, c.before.before.loop-test.true)) c.before.if1.false)
+    (chain_turn l.n (length a.places.now) a.next.now l.k (omega (arith, l.invariant.long, c.loop-n-test.true)) c.if-k-eq0.false)
     l.invariant)
 
-same-length-2 : tie.Need-same-length-2 invariant-loop decreases-loop
-same-length-2 c = c.before.loop.invariant.long
+same-length-2 : tie.Need-shape_of-places invariant-loop decreases-loop
+same-length-2 c = c.loop-n.invariant.long
 
-returns-2 : tie.Need-returns-2 invariant-loop decreases-loop
-returns-2 c = end (chain_full _ _ _ _ (omega (arith, c.before.loop.invariant.long, c.loop-test.false))) c.before.loop.invariant
+returns-2 : tie.Need-returns invariant-loop decreases-loop
+returns-2 c = end (chain_full _ _ _ _ (omega (arith, c.loop-n.invariant.long, c.loop-n-test.false))) c.loop-n.invariant
 
-pub put-chain-spec : {M : Type 1} → statement M
-put-chain-spec =
+pub put_chain_spec : {M : Type 1} → statement M
+put_chain_spec =
     tie.close
     (tie.spec
     invariant-loop

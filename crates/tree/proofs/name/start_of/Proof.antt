@@ -6,13 +6,13 @@ use Rattle.tree.proofs.Routes.{start_behind}
 use Rattle.tree.proofs.name.start_of.Statement.{statement}
 use Rattle.tree.proofs.name.start_of.Tie as tie
 
-pub start-of-spec : {M : Type 1} → statement M
-start-of-spec =
+pub start_of_spec : {M : Type 1} → statement M
+start_of_spec =
     tie.close
     (tie.spec
     (λ c. search rules)
     (λ c. search rules)
     (λ c. search rules)
-    (λ c. omega (arith, c.shared-slice-known.given (c.before.before.args.k - 1)))
+    (λ c. omega (arith, c.shared_slice_known-1.given (c.args.k - 1)))
     (λ c. search rules)
-    (λ c. start_behind c.before.before.args.ends.now c.before.before.args.k c.before.if1.false))
+    (λ c. start_behind c.args.ends.now c.args.k c.if-k-eq0.false))

@@ -10,35 +10,35 @@ use Rattle.tree.proofs.queue.walk.Statement.{statement}
 use Rattle.tree.proofs.queue.walk.Tie as tie
 
 -- the table that was accepted
-abbrev asked : tie.After-enum-told → Table
+abbrev asked : tie.In-Whole → Table
 asked e =
-    let a = e.before.before.before.before.before.before.before.before.args in
+    let a = e.args in
     table a.handles.now a.parents.now a.ends.now a.marks.now a.count a.names.now
 
-heard-of : (e : tie.After-enum-told) → got tt e.enum_told.given.0.0 ≡ table_at (asked e)
-heard-of e = heard says_checked e.enum_told.given.1 e.before.before.check-table.ensures
+heard-of : (e : tie.In-Whole) → got tt e.in-Whole.field-0 ≡ table_at (asked e)
+heard-of e = heard says_checked e.in-Whole.is e.check_table.ensures
 
-whole : (e : tie.After-enum-told) → Sound (asked e)
+whole : (e : tie.In-Whole) → Sound (asked e)
 whole e = accepted (asked e) (heard-of e)
 
-returns : tie.Need-returns
+returns : tie.Need-returns-in-Whole
 returns c =
-    let w = c.before.before in
-    order (sym (heard-of w.before.before.before.before)) c.plain.ensures w.walk-made.ensures
+    let w = c in
+    order (sym (heard-of c.before.before.before.before)) c.plain.ensures w.walk_made-n.ensures
 
-returns-2 : tie.Need-returns-2
-returns-2 c = no_order (sym (heard says_checked c.before.f.given.1 c.before.before.before.check-table.ensures)) refl refl refl
+returns-2 : tie.Need-returns-in-Refused
+returns-2 c = no_order (sym (heard says_checked c.in-Refused.is c.check_table.ensures)) refl refl refl
 
-pub walk-spec : {M : Type 1} → statement M
-walk-spec =
+pub walk_spec : {M : Type 1} → statement M
+walk_spec =
     tie.close
     (tie.spec
     (λ c κs. search rules)
     (λ c. search rules)
-    (λ c. rows_long (whole c.before))
-    (λ c. marks_long (whole c.before.before))
+    (λ c. rows_long (whole c))
+    (λ c. marks_long (whole c))
     (λ c. search rules)
-    (λ c κs. let s = whole c.before.before.before in (s.kept.ruling, (even s, (s.marks, s.kept.ruling.few))))
+    (λ c κs. let s = whole c.before in (s.kept.ruling, (even s, (s.marks, s.kept.ruling.few))))
     (λ c κs. search rules)
     (λ c. search rules)
     returns

@@ -11,85 +11,85 @@ use Rattle.tree.proofs.laws.Queued.{queue_place, queue_fits, queue_long, queue_r
 use Rattle.tree.proofs.queue.walk_ruled.Statement.{statement}
 use Rattle.tree.proofs.queue.walk_ruled.Tie as tie
 
-abbrev invariant-loop : tie.invariant-loop
+abbrev invariant-loop : tie.invariant-loop-i
 invariant-loop parents marks first next places₀ count₀ i₀ places count i = Walking parents (live marks) places₀ places count i × (length parents ≤ length places₀)
 
-abbrev decreases-loop : tie.decreases-loop
+abbrev decreases-loop : tie.decreases-loop-i
 decreases-loop parents marks first next places₀ count₀ i₀ places count i = length parents - i
 
-slice-write-places : tie.Need-slice-write-places invariant-loop decreases-loop
-slice-write-places c = omega (arith, c.before.before.before.before.before.requires.0.some)
+slice-write-places : tie.Need-bounds-places-0 invariant-loop decreases-loop
+slice-write-places c = omega (arith, c.requires.0.some)
 
-loop-holds : tie.Need-loop-init invariant-loop decreases-loop
+loop-holds : tie.Need-loop-i-init invariant-loop decreases-loop
 loop-holds c =
-    let b = c.before.before.before.before.before in
+    let b = c in
     let a = b.args in
     let rule = b.requires.0 in
     let long = length-set a.places.now 0 0 in
     (walking_start a.parents.now rule _ b.requires.1.0 a.places.now (omega (arith, rule.some)), omega arith)
 
 -- in a turn: the place whose turn it is is one, and the queue fits
-in-turn : (c : tie.In-loop invariant-loop decreases-loop) →
-    let b = c.before.before.before.before.before.before.before in
-    let l = c.before.loop in
+in-turn : (c : tie.In-loop-i invariant-loop decreases-loop) →
+    let b = c in
+    let l = c.loop-i in
     (get_or l.places l.i 0 < length b.args.parents.now) × (l.count ≤ length b.args.parents.now) × (length b.args.parents.now ≤ length l.places) × (length b.args.parents.now ≤ 1024)
 in-turn c =
-    let b = c.before.before.before.before.before.before.before in
-    let l = c.before.loop in
+    let b = c in
+    let l = c.loop-i in
     let q = l.invariant.0.queue in
     let root = b.requires.1.0.root in
     let long = queue_long _ b.requires.0 _ b.requires.1.0 root q l.invariant.1 in
-    (queue_place _ b.requires.0 _ b.requires.1.0 root q c.loop-test.true, queue_fits _ b.requires.0 _ b.requires.1.0 root q, omega (arith, l.invariant.1), b.requires.0.few)
+    (queue_place _ b.requires.0 _ b.requires.1.0 root q c.loop-i-test.true, queue_fits _ b.requires.0 _ b.requires.1.0 root q, omega (arith, l.invariant.1), b.requires.0.few)
 
-mul-p : tie.Need-overflow-mul-p invariant-loop decreases-loop
-mul-p c = let t = in-turn c in omega (arith, c.loop-test.true)
+mul-p : tie.Need-offset_bounds-places-i invariant-loop decreases-loop
+mul-p c = let t = in-turn c in omega (arith, c.loop-i-test.true)
 
-slice-read-p : tie.Need-slice-read-p invariant-loop decreases-loop
-slice-read-p c = let t = in-turn c.before in omega (arith, c.before.loop-test.true)
+slice-read-p : tie.Need-bounds-places-i invariant-loop decreases-loop
+slice-read-p c = let t = in-turn c.before in omega (arith, c.loop-i-test.true)
 
-cast-p : tie.Need-overflow-cast-p invariant-loop decreases-loop
+cast-p : tie.Need-overflow_cast-p invariant-loop decreases-loop
 cast-p c = let t = in-turn c.before in omega arith
 
-mul-put-chain : tie.Need-overflow-mul-put-chain invariant-loop decreases-loop
+mul-put-chain : tie.Need-offset_bounds-first-p invariant-loop decreases-loop
 mul-put-chain c = let t = in-turn c.before in omega arith
 
-shared-slice-read-put-chain : tie.Need-shared-slice-read-put-chain invariant-loop decreases-loop
-shared-slice-read-put-chain c = let t = in-turn c.before.before in omega (arith, c.before.before.before.before.before.before.before.before.before.requires.1.1.0.firsts)
+shared-slice-read-put-chain : tie.Need-bounds-first-p invariant-loop decreases-loop
+shared-slice-read-put-chain c = let t = in-turn c.before.before in omega (arith, c.requires.1.1.0.firsts)
 
-put-chain-requires : tie.Need-put-chain-requires invariant-loop decreases-loop
+put-chain-requires : tie.Need-put_chain-count-requires invariant-loop decreases-loop
 put-chain-requires c κs = search rules
 
-add-i : tie.Need-overflow-add-i invariant-loop decreases-loop
-add-i c = let t = in-turn c.before.before.before.before.before.before in omega (arith, c.before.before.before.before.before.before.loop-test.true)
+add-i : tie.Need-overflow_add-i invariant-loop decreases-loop
+add-i c = let t = in-turn c.before.before.before.before.before.before in omega (arith, c.loop-i-test.true)
 
-loop-less : tie.Need-loop-smaller invariant-loop decreases-loop
-loop-less c = let t = in-turn c.before.before.before.before.before.before in omega (arith, c.before.before.before.before.before.before.loop-test.true)
+loop-less : tie.Need-loop-i-smaller invariant-loop decreases-loop
+loop-less c = let t = in-turn c.before.before.before.before.before.before in omega (arith, c.loop-i-test.true)
 
-loop-again : tie.Need-loop-preserved invariant-loop decreases-loop
+loop-again : tie.Need-loop-i-preserved invariant-loop decreases-loop
 loop-again c =
-    let e = c.before.before.before.before.before.before in
-    let l = e.before.loop in
-    let b = e.before.before.before.before.before.before.before in
+    let e = c in
+    let l = e.loop-i in
+    let b = e in
     let rule = b.requires.0 in
     let marks = b.requires.1.0 in
-    let more = e.loop-test.true in
+    let more = e.loop-i-test.true in
     let room = queue_room _ rule _ marks marks.root l.invariant.0.queue more in
-    let t = in-turn e in
+    let t = in-turn c.before.before.before.before.before.before in
     let chain = chain_kids b.requires.1.1.0 (get_or l.places l.i 0) rule (length l.places - l.count) (omega arith) in
-    (walking_turn _ rule _ marks l.invariant.0 more l.invariant.1 (rw chain at c.before.before.put-chain.ensures), l.invariant.1)
+    (walking_turn _ rule _ marks l.invariant.0 more l.invariant.1 (rw chain at c.put_chain-count.ensures), l.invariant.1)
 
-same_length : tie.Need-same-length invariant-loop decreases-loop
+same_length : tie.Need-shape_of-places invariant-loop decreases-loop
 same_length c =
-    let b = c.before.before.before.before.before.before.before in
-    queue_long _ b.requires.0 _ b.requires.1.0 b.requires.1.0.root c.before.loop.invariant.0.queue c.before.loop.invariant.1 ∙ length-set b.args.places.now 0 0
+    let b = c in
+    queue_long _ b.requires.0 _ b.requires.1.0 b.requires.1.0.root c.loop-i.invariant.0.queue c.loop-i.invariant.1 ∙ length-set b.args.places.now 0 0
 
 returns : tie.Need-returns invariant-loop decreases-loop
 returns c =
-    let b = c.before.before.before.before.before.before.before in
-    walking_end _ b.requires.0 _ b.requires.1.0 c.before.loop.invariant.0 c.loop-test.false
+    let b = c in
+    walking_end _ b.requires.0 _ b.requires.1.0 c.loop-i.invariant.0 c.loop-i-test.false
 
-pub walk-ruled-spec : {M : Type 1} → statement M
-walk-ruled-spec =
+pub walk_ruled_spec : {M : Type 1} → statement M
+walk_ruled_spec =
     tie.close
     (tie.spec
     invariant-loop

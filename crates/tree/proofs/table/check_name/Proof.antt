@@ -9,24 +9,24 @@ use Rattle.tree.specs.Table.{name_at}
 use Rattle.tree.proofs.table.check_name.Statement.{statement}
 use Rattle.tree.proofs.table.check_name.Tie as tie
 
-returns : tie.Need-returns
+returns : tie.Need-returns-then-end-s
 unfolding name_at
 returns c =
-    let n = c.before.before in
-    follow _ (heard says_part n.next.given.1 n.before.before.text.ensures) (simp (eq-eqb _ _ c.if1.true))
+    let n = c in
+    follow _ (heard says_part n.in-Got.is n.text.ensures) (simp (eq-eqb _ _ c.if-end-s.true))
 
-returns-2 : tie.Need-returns-2
+returns-2 : tie.Need-returns-else-end-s
 unfolding name_at
 returns-2 c =
-    let n = c.before.before.before in
-    follow _ (heard says_part n.next.given.1 n.before.before.text.ensures) (simp (ne_eqb _ _ c.before.if1.false) (ap refused c.plain.ensures))
+    let n = c in
+    follow _ (heard says_part n.in-Got.is n.text.ensures) (simp (ne_eqb _ _ c.if-end-s.false) (ap refused c.plain.ensures))
 
-returns-3 : tie.Need-returns-3
+returns-3 : tie.Need-returns-in-Refused
 unfolding name_at
-returns-3 c = stop _ (heard says_part c.before.f.given.1 c.before.before.before.text.ensures)
+returns-3 c = stop _ (heard says_part c.in-Refused.is c.text.ensures)
 
-pub check-name-spec : {M : Type 1} → statement M
-check-name-spec =
+pub check_name_spec : {M : Type 1} → statement M
+check_name_spec =
     tie.close
     (tie.spec
     (λ c κs. search rules)

@@ -13,26 +13,26 @@ use Rattle.tree.proofs.Tables.{names_stop, names_on, names_end}
 use Rattle.tree.proofs.table.check_names.Statement.{statement}
 use Rattle.tree.proofs.table.check_names.Tie as tie
 
-abbrev invariant-loop : tie.invariant-loop
+abbrev invariant-loop : tie.invariant-loop-k
 invariant-loop ends names from₀ k₀ from k = (names_from k (length ends - k) ends names ≡ names_from 0 (length ends) ends names) × (k ≤ length ends) × (from ≡ start_of ends k)
 
-abbrev decreases-loop : tie.decreases-loop
+abbrev decreases-loop : tie.decreases-loop-k
 decreases-loop ends names from₀ k₀ from k = length ends - k
 
-loop-again : tie.Need-loop-preserved invariant-loop decreases-loop
+loop-again : tie.Need-loop-k-preserved invariant-loop decreases-loop
 loop-again c =
-    let l = c.before.before.before.before.before in
-    let a = l.before.before.before.before.args in
-    (names_on _ a.ends.now a.names.now l.loop-test.true _ l.before.loop.invariant.2 _ (heard says_checked c.enum_told.given.1 c.before.before.check-name.ensures) ∙ l.before.loop.invariant.0, omega arith, simp add-one)
+    let l = c in
+    let a = l.args in
+    (names_on _ a.ends.now a.names.now l.loop-k-test.true _ l.loop-k.invariant.2 _ (heard says_checked c.in-Whole.is c.check_name.ensures) ∙ l.loop-k.invariant.0, omega arith, simp add-one)
 
-returns : tie.Need-returns invariant-loop decreases-loop
+returns : tie.Need-returns-in-Refused invariant-loop decreases-loop
 returns c =
-    let l = c.before.before.before.before.before.before in
-    let a = l.before.before.before.before.args in
-    names_stop _ a.ends.now a.names.now l.loop-test.true _ l.before.loop.invariant.2 _ (heard says_checked c.before.f.given.1 c.before.before.before.check-name.ensures) ∙ l.before.loop.invariant.0
+    let l = c in
+    let a = l.args in
+    names_stop _ a.ends.now a.names.now l.loop-k-test.true _ l.loop-k.invariant.2 _ (heard says_checked c.in-Refused.is c.check_name.ensures) ∙ l.loop-k.invariant.0
 
-pub check-names-spec : {M : Type 1} → statement M
-check-names-spec =
+pub check_names_spec : {M : Type 1} → statement M
+check_names_spec =
     tie.close
     (tie.spec
     invariant-loop
@@ -40,10 +40,10 @@ check-names-spec =
     (λ c. (simp sub-zero, omega arith, refl))
     (λ c. search rules)
     (λ c. search rules)
-    (λ c. omega (arith, c.shared-slice-known3.given c.before.before.loop.k))
-    (λ c. omega (arith, c.before.before.before.before.before.requires.rises c.before.before.loop.k c.before.loop-test.true))
-    (λ c. omega (arith, c.before.before.before.before.before.requires.rises c.before.before.loop.k c.before.loop-test.true))
-    (λ c. omega (arith, c.before.before.before.before.before.requires.within c.before.before.loop.k c.before.loop-test.true))
+    (λ c. omega (arith, c.shared_slice_known-in-loop-k-1.given c.loop-k.k))
+    (λ c. omega (arith, c.requires.rises c.loop-k.k c.loop-k-test.true))
+    (λ c. omega (arith, c.requires.rises c.loop-k.k c.loop-k-test.true))
+    (λ c. omega (arith, c.requires.within c.loop-k.k c.loop-k-test.true))
     (λ c κs. search rules)
     (λ c. search rules)
     (λ c. search rules)
@@ -51,4 +51,4 @@ check-names-spec =
     (λ c. search rules)
     (λ c. search rules)
     loop-again
-    (λ c. names_end _ c.before.before.before.before.args.ends.now c.before.before.before.before.args.names.now c.loop-test.false ∙ c.before.loop.invariant.0))
+    (λ c. names_end _ c.args.ends.now c.args.names.now c.loop-k-test.false ∙ c.loop-k.invariant.0))

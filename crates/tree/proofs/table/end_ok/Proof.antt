@@ -3,5 +3,5 @@ use borrow.Author.Tests.{le-leb, lt-leb}
 use Rattle.tree.proofs.table.end_ok.Statement.{statement}
 use Rattle.tree.proofs.table.end_ok.Tie as tie
 
-pub end-ok-spec : {M : Type 1} → statement M
-end-ok-spec = tie.close (tie.spec (λ c. rw (le-leb c.before.args.from c.before.args.end c.if1.true)) (λ c. rw (lt-leb c.before.args.from c.before.args.end c.if1.false)))
+pub end_ok_spec : {M : Type 1} → statement M
+end_ok_spec = tie.close (tie.spec (λ c. rw (le-leb c.args.from c.args.end c.if-from-end.true)) (λ c. rw (lt-leb c.args.from c.args.end c.if-from-end.false)))

@@ -3,17 +3,17 @@ use borrow.Author.Tests.{eq-eqb, ne_eqb}
 use Rattle.tree.proofs.table.lists_ok.Statement.{statement}
 use Rattle.tree.proofs.table.lists_ok.Tie as tie
 
-returns : tie.Need-returns
-returns c = rw (ne_eqb _ _ c.if1.true)
+returns : tie.Need-returns-then-handles-ne1024
+returns c = rw (ne_eqb _ _ c.if-handles-ne1024.true)
 
-returns-2 : tie.Need-returns-2
-returns-2 c = rw (eq-eqb _ _ c.before.if1.false, ne_eqb _ _ c.if2.true)
+returns-2 : tie.Need-returns-then-parents-ne1024
+returns-2 c = rw (eq-eqb _ _ c.if-handles-ne1024.false, ne_eqb _ _ c.if-parents-ne1024.true)
 
-returns-3 : tie.Need-returns-3
-returns-3 c = rw (eq-eqb _ _ c.before.before.if1.false, eq-eqb _ _ c.before.if2.false, ne_eqb _ _ c.if3.true)
+returns-3 : tie.Need-returns-then-ends-ne1024
+returns-3 c = rw (eq-eqb _ _ c.if-handles-ne1024.false, eq-eqb _ _ c.if-parents-ne1024.false, ne_eqb _ _ c.if-ends-ne1024.true)
 
-returns-4 : tie.Need-returns-4
-returns-4 c = rw (eq-eqb _ _ c.before.before.if1.false, eq-eqb _ _ c.before.if2.false, eq-eqb _ _ c.if3.false)
+returns-4 : tie.Need-returns
+returns-4 c = rw (eq-eqb _ _ c.if-handles-ne1024.false, eq-eqb _ _ c.if-parents-ne1024.false, eq-eqb _ _ c.if-ends-ne1024.false)
 
-pub lists-ok-spec : {M : Type 1} → statement M
-lists-ok-spec = tie.close (tie.spec returns returns-2 returns-3 returns-4)
+pub lists_ok_spec : {M : Type 1} → statement M
+lists_ok_spec = tie.close (tie.spec returns returns-2 returns-3 returns-4)

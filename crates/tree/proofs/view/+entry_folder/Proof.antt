@@ -38,184 +38,184 @@ abbrev folder-below : ℕ → In 3 folder-kinds.ps
 folder-below t = and 3 folder-kinds.ps (falls 3 folder-kinds.ps ◌<◌ μ-folder t) folder.Pre
 
 entry-cast-places :
-    (t : ℕ) → entry-lts.Need-overflow-cast-places (folder-below t, folder.Post) (entry_at t) entry.Post
-entry-cast-places t c = omega (arith, c.before.before.before.requires.1.0.few)
+    (t : ℕ) → entry-lts.Need-overflow_cast-places (folder-below t, folder.Post) (entry_at t) entry.Post
+entry-cast-places t c = omega (arith, c.requires.1.0.few)
 
 entry-mul-places :
-    (t : ℕ) → entry-lts.Need-overflow-mul-places (folder-below t, folder.Post) (entry_at t) entry.Post
+    (t : ℕ) → entry-lts.Need-offset_bounds-places-n (folder-below t, folder.Post) (entry_at t) entry.Post
 entry-mul-places t c =
-    let a = c.before.before.before in
+    let a = c in
     let e = ap length (full_step a.requires.1.0 a.args.k a.requires.1.1.0) in
-    omega (arith, a.well-formed)
+    omega (arith, a.well_formed)
 
 entry-slice-write-places :
-    (t : ℕ) → entry-lts.Need-slice-write-places (folder-below t, folder.Post) (entry_at t) entry.Post
+    (t : ℕ) → entry-lts.Need-bounds-places-n (folder-below t, folder.Post) (entry_at t) entry.Post
 entry-slice-write-places t c =
-    let a = c.before.before.before in
+    let a = c in
     let e = ap length (full_step a.requires.1.0 a.args.k a.requires.1.1.0) in
     omega arith
 
 entry-add-folder :
-    (t : ℕ) → entry-lts.Need-overflow-add-folder (folder-below t, folder.Post) (entry_at t) entry.Post
+    (t : ℕ) → entry-lts.Need-overflow_add-n (folder-below t, folder.Post) (entry_at t) entry.Post
 entry-add-folder t c =
-    let a = c.before.before.before.before in
+    let a = c in
     let e = ap length (full_step a.requires.1.0 a.args.k a.requires.1.1.0) in
-    omega (arith, a.well-formed)
+    omega (arith, a.well_formed)
 
 entry-folder-requires :
     (t : ℕ) → entry-lts.Need-folder-requires (folder-below t, folder.Post) (entry_at t) entry.Post
 entry-folder-requires t c κs =
-    let a = c.before.before.before.before in
+    let a = c in
     let e = ap length (full_step a.requires.1.0 a.args.k a.requires.1.1.0) in
     let l = length-set a.args.places.now a.args.n a.args.k in
     (omega (arith, a.requires.0), (a.requires.1.0, (a.requires.1.1.0, omega arith)))
 
 entry-same-length :
-    (t : ℕ) → entry-lts.Need-same-length (folder-below t, folder.Post) (entry_at t) entry.Post
+    (t : ℕ) → entry-lts.Need-shape_of-places (folder-below t, folder.Post) (entry_at t) entry.Post
 entry-same-length t c =
-    let a = c.before.before.before.before.before.before.before.args in
-    long c.before.before.folder.ensures ∙ length-set a.places.now a.n a.k
+    let a = c.args in
+    long c.folder.ensures ∙ length-set a.places.now a.n a.k
 
 entry-returns :
     (t : ℕ) → entry-lts.Need-returns (folder-below t, folder.Post) (entry_at t) entry.Post
 entry-returns t c =
-    let a = c.before.before.before.before.before.before.before in
-    let put = c.before.before.folder.ensures in
+    let a = c in
+    let put = c.folder.ensures in
     let owed = byte (full_step a.requires.1.0 a.args.k a.requires.1.1.0) (start {out = a.args.places.now}) in
     record { bytes = put.bytes ∙ owed.bytes; place = omega (arith, put.place, owed.place) }
 
-abbrev folder-Inv-loop : folder-lts.invariant-loop
+abbrev folder-Inv-loop : folder-lts.invariant-loop-k
 folder-Inv-loop first next p places₀ n m₀ k₀ places m k =
     Owes places m (join (full first next) (chain next k)) places₀ n (inside first next p)
     × (k < length first)
     × (length (join (full first next) (chain next k)) ≤ length (inside first next p))
 
-abbrev folder-μ-loop : folder-lts.decreases-loop
+abbrev folder-μ-loop : folder-lts.decreases-loop-k
 folder-μ-loop first next p places₀ n m₀ k₀ places m k = length (chain next k)
 
 folder-mul-k :
     (t : ℕ) →
-    folder-lts.Need-overflow-mul-k
+    folder-lts.Need-offset_bounds-first-p
     (entry-below t, entry.Post)
     (folder-at t)
     folder.Post
     folder-Inv-loop
     folder-μ-loop
-folder-mul-k t c = omega (arith, c.before.before.before.requires.1.0.few)
+folder-mul-k t c = omega (arith, c.requires.1.0.few)
 
-folder-shared-slice-read-k : (t : ℕ) → folder-lts.Need-shared-slice-read-k (
+folder-shared-slice-read-k : (t : ℕ) → folder-lts.Need-bounds-first-p (
   entry-below t,
   entry.Post,
 ) (folder-at t) folder.Post folder-Inv-loop folder-μ-loop
-folder-shared-slice-read-k t c = c.before.before.before.before.requires.1.1.0
+folder-shared-slice-read-k t c = c.requires.1.1.0
 
 folder-cast-k :
     (t : ℕ) →
-    folder-lts.Need-overflow-cast-k
+    folder-lts.Need-overflow_cast-k
     (entry-below t, entry.Post)
     (folder-at t)
     folder.Post
     folder-Inv-loop
     folder-μ-loop
 folder-cast-k t c =
-    let a = c.before.before.before.before in
+    let a = c in
     omega (arith, a.requires.1.0.few, a.requires.1.0.first_in a.args.p a.requires.1.1.0)
 
 folder-loop-holds :
     (t : ℕ) →
-    folder-lts.Need-loop-init
+    folder-lts.Need-loop-k-init
     (entry-below t, entry.Post)
     (folder-at t)
     folder.Post
     folder-Inv-loop
     folder-μ-loop
 folder-loop-holds t c =
-    let a = c.before.before.before.before in
+    let a = c in
     let e = left_start a.args.first.now a.args.next.now a.args.p in
     (rw e start, a.requires.1.0.first_in a.args.p a.requires.1.1.0, omega (arith, ap length e))
 
 folder-entry-requires :
     (t : ℕ) →
-    folder-lts.Need-entry-requires
+    folder-lts.Need-entry-m-requires
     (entry-below t, entry.Post)
     (folder-at t)
     folder.Post
     folder-Inv-loop
     folder-μ-loop
 folder-entry-requires t c κs =
-    let a = c.before.before.before.before.before.before.before in
-    let i = c.before.before.loop in
-    let hit = left_hit a.requires.1.0 i.k c.before.loop-test.true i.invariant.1 in
+    let a = c in
+    let i = c.loop-k in
+    let hit = left_hit a.requires.1.0 i.k c.loop-k-test.true i.invariant.1 in
     let s = ap length hit in
     let b = length-append (full a.args.first.now a.args.next.now i.k) (join (full a.args.first.now a.args.next.now) (chain a.args.next.now (get_or a.args.next.now i.k 0))) in
     (omega (arith, a.requires.0, i.invariant.2), (a.requires.1.0, (i.invariant.1, omega (arith, i.invariant.0.place, i.invariant.0.long))))
 
 folder-mul-k-2 :
     (t : ℕ) →
-    folder-lts.Need-overflow-mul-k-2
+    folder-lts.Need-offset_bounds-next-k
     (entry-below t, entry.Post)
     (folder-at t)
     folder.Post
     folder-Inv-loop
     folder-μ-loop
-folder-mul-k-2 t c = omega (arith, c.before.before.before.before.before.before.before.before.before.before.requires.1.0.few, c.before.before.before.before.before.loop.invariant.1)
+folder-mul-k-2 t c = omega (arith, c.requires.1.0.few, c.loop-k.invariant.1)
 
-folder-shared-slice-read-k-2 : (t : ℕ) → folder-lts.Need-shared-slice-read-k-2 (
+folder-shared-slice-read-k-2 : (t : ℕ) → folder-lts.Need-bounds-next-k (
   entry-below t,
   entry.Post,
 ) (folder-at t) folder.Post folder-Inv-loop folder-μ-loop
-folder-shared-slice-read-k-2 t c = omega (arith, c.before.before.before.before.before.before.before.before.before.before.before.requires.1.0.long, c.before.before.before.before.before.before.loop.invariant.1)
+folder-shared-slice-read-k-2 t c = omega (arith, c.requires.1.0.long, c.loop-k.invariant.1)
 
 folder-cast-k-2 :
     (t : ℕ) →
-    folder-lts.Need-overflow-cast-k-2
+    folder-lts.Need-overflow_cast-k-in-loop-k
     (entry-below t, entry.Post)
     (folder-at t)
     folder.Post
     folder-Inv-loop
     folder-μ-loop
 folder-cast-k-2 t c =
-    let a = c.before.before.before.before.before.before.before.before.before.before.before in
-    let i = c.before.before.before.before.before.before.loop in
+    let a = c in
+    let i = c.loop-k in
     omega (arith, a.requires.1.0.few, a.requires.1.0.next_in i.k i.invariant.1)
 
 folder-loop-less :
     (t : ℕ) →
-    folder-lts.Need-loop-smaller
+    folder-lts.Need-loop-k-smaller
     (entry-below t, entry.Post)
     (folder-at t)
     folder.Post
     folder-Inv-loop
     folder-μ-loop
 folder-loop-less t c =
-    let a = c.before.before.before.before.before.before.before.before.before.before.before in
-    let i = c.before.before.before.before.before.before.loop in
-    omega (arith, ap length (chain_step a.requires.1.0 i.k c.before.before.before.before.before.loop-test.true i.invariant.1))
+    let a = c in
+    let i = c.loop-k in
+    omega (arith, ap length (chain_step a.requires.1.0 i.k c.loop-k-test.true i.invariant.1))
 
 folder-loop-again :
     (t : ℕ) →
-    folder-lts.Need-loop-preserved
+    folder-lts.Need-loop-k-preserved
     (entry-below t, entry.Post)
     (folder-at t)
     folder.Post
     folder-Inv-loop
     folder-μ-loop
 folder-loop-again t c =
-    let a = c.before.before.before.before.before.before.before.before.before.before.before in
-    let i = c.before.before.before.before.before.before.loop in
-    let hit = left_hit a.requires.1.0 i.k c.before.before.before.before.before.loop-test.true i.invariant.1 in
+    let a = c in
+    let i = c.loop-k in
+    let hit = left_hit a.requires.1.0 i.k c.loop-k-test.true i.invariant.1 in
     let b = length-append (full a.args.first.now a.args.next.now i.k) (join (full a.args.first.now a.args.next.now) (chain a.args.next.now (get_or a.args.next.now i.k 0))) in
-    (part hit i.invariant.0 c.before.before.before.entry.ensures, a.requires.1.0.next_in i.k i.invariant.1, omega (arith, ap length hit, i.invariant.2))
+    (part hit i.invariant.0 c.entry-m.ensures, a.requires.1.0.next_in i.k i.invariant.1, omega (arith, ap length hit, i.invariant.2))
 
 folder-same-length :
     (t : ℕ) →
-    folder-lts.Need-same-length
+    folder-lts.Need-shape_of-places
     (entry-below t, entry.Post)
     (folder-at t)
     folder.Post
     folder-Inv-loop
     folder-μ-loop
-folder-same-length t c = c.before.loop.invariant.0.long
+folder-same-length t c = c.loop-k.invariant.0.long
 
 folder-returns :
     (t : ℕ) →
@@ -226,11 +226,11 @@ folder-returns :
     folder-Inv-loop
     folder-μ-loop
 folder-returns t c =
-    let a = c.before.before.before.before.before.before.args in
-    end (left_none a.first.now a.next.now _ c.loop-test.false) c.before.loop.invariant.0
+    let a = c.args in
+    end (left_none a.first.now a.next.now _ c.loop-k-test.false) c.loop-k.invariant.0
 
-pub +entry-folder-spec : {M : Type 1} → statement M
-+entry-folder-spec =
+pub +entry_folder_spec : {M : Type 1} → statement M
++entry_folder_spec =
     close
     μ-entry
     μ-folder

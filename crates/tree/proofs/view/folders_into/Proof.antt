@@ -10,38 +10,38 @@ use Rattle.tree.proofs.view.folders_into.Statement.{statement}
 use Rattle.tree.proofs.view.folders_into.Tie as tie
 
 -- the table that was accepted
-abbrev asked : tie.After-enum-told → Table
+abbrev asked : tie.In-Whole → Table
 asked e =
-    let a = e.before.before.before.before.before.before.before.before.before.args in
+    let a = e.args in
     table a.handles.now a.parents.now a.ends.now a.marks.now a.count a.names.now
 
-heard-of : (e : tie.After-enum-told) → got tt e.enum_told.given.0.0 ≡ table_at (asked e)
-heard-of e = heard says_checked e.enum_told.given.1 e.before.before.check-table.ensures
+heard-of : (e : tie.In-Whole) → got tt e.in-Whole.field-0 ≡ table_at (asked e)
+heard-of e = heard says_checked e.in-Whole.is e.check_table.ensures
 
-whole : (e : tie.After-enum-told) → Sound (asked e)
+whole : (e : tie.In-Whole) → Sound (asked e)
 whole e = accepted (asked e) (heard-of e)
 
-returns : tie.Need-returns
+returns : tie.Need-returns-in-Whole
 returns c =
-    let w = c.before.before.before.before.before.before in
-    let e = w.before.before.before.before in
-    view_given (asked e) _ (heard-of e) (view_front (whole e) w.view_made.ensures refl).0 c.before.before.give.ensures
+    let w = c in
+    let e = w in
+    view_given (asked c.before.before.before.before.before.before.before.before) _ (heard-of c.before.before.before.before.before.before.before.before) (view_front (whole c.before.before.before.before.before.before.before.before) w.view_made-n.ensures refl).0 c.give.ensures
 
-returns-2 : tie.Need-returns-2
-returns-2 c = view_refused _ _ (heard says_checked c.before.f.given.1 c.before.before.before.check-table.ensures)
+returns-2 : tie.Need-returns-in-Refused
+returns-2 c = view_refused _ _ (heard says_checked c.in-Refused.is c.check_table.ensures)
 
-pub folders-into-spec : {M : Type 1} → statement M
-folders-into-spec =
+pub folders_into_spec : {M : Type 1} → statement M
+folders_into_spec =
     tie.close
     (tie.spec
     (λ c κs. search rules)
     (λ c. search rules)
-    (λ c. rows_long (whole c.before))
-    (λ c. marks_long (whole c.before.before))
+    (λ c. rows_long (whole c))
+    (λ c. marks_long (whole c))
     (λ c. search rules)
-    (λ c κs. let s = whole c.before.before.before in (s.kept.ruling, (even s, (s.marks, s.kept.ruling.few))))
-    (λ c. (view_front (whole c.before.before.before.before.before) c.before.view_made.ensures refl).2)
-    (λ c. sym (view_front (whole c.before.before.before.before.before.before) c.before.before.view_made.ensures refl).1)
+    (λ c κs. let s = whole c.before in (s.kept.ruling, (even s, (s.marks, s.kept.ruling.few))))
+    (λ c. (view_front (whole c.before.before.before) c.view_made-n.ensures refl).2)
+    (λ c. sym (view_front (whole c.before.before.before.before) c.view_made-n.ensures refl).1)
     (λ c κs. search rules)
     (λ c. search rules)
     (λ c. search rules)

@@ -8,43 +8,43 @@ use Rattle.tree.proofs.Viewing.{made_down, made_view, view_room}
 use Rattle.tree.proofs.view.view_made.Statement.{statement}
 use Rattle.tree.proofs.view.view_made.Tie as tie
 
-slice-aggregate-link-ruled : tie.Need-slice-aggregate-link-ruled
+slice-aggregate-link-ruled : tie.Need-slice_bounds-link_ruled-end
 slice-aggregate-link-ruled c = search rules
 
-slice-aggregate-link-ruled-2 : tie.Need-slice-aggregate-link-ruled-2
+slice-aggregate-link-ruled-2 : tie.Need-slice_bounds-link_ruled-end-2
 slice-aggregate-link-ruled-2 c = search rules
 
-link-ruled-requires : tie.Need-link-ruled-requires
+link-ruled-requires : tie.Need-link_ruled-requires
 link-ruled-requires c κs =
-    let p = c.before.before.before.before.before.requires in
+    let p = c.requires in
     (p.0, (p.1.0, unlinked _ _ p.1.1.0.place refl refl (zeros 1024) (zeros 1024)))
 
-slice-aggregate-entry : tie.Need-slice-aggregate-entry
+slice-aggregate-entry : tie.Need-slice_bounds-entry-end
 slice-aggregate-entry c = search rules
 
-slice-aggregate-entry-2 : tie.Need-slice-aggregate-entry-2
+slice-aggregate-entry-2 : tie.Need-slice_bounds-entry-end-2
 slice-aggregate-entry-2 c = search rules
 
 entry-requires : tie.Need-entry-requires
 entry-requires c κs =
-    let p = c.before.before.before.before.before.before.before.before.before.before.before.requires in
-    let links = c.before.before.before.before.before.link-ruled.ensures in
+    let p = c.requires in
+    let links = c.link_ruled.ensures in
     let room = view_room p.0 p.1.1.0 in
     let same = ap length (made_view p.0 p.1.1.0 links) in
     let n = links.firsts in
     (made_down p.0 p.1.1.0 links, (omega arith, omega (arith, p.1.1.1)))
 
-same_length : tie.Need-same-length
+same_length : tie.Need-shape_of-places
 same_length c = search rules
 
 returns : tie.Need-returns
 returns c =
-    let e = c.before.before.before.before.before.before.before.before in
-    let p = e.before.before.before.before.before.before.requires in
-    rw (made_view p.0 p.1.1.0 e.link-ruled.ensures) at c.before.before.entry.ensures
+    let e = c in
+    let p = e.requires in
+    rw (made_view p.0 p.1.1.0 e.link_ruled.ensures) at c.entry.ensures
 
-pub view-made-spec : {M : Type 1} → statement M
-view-made-spec =
+pub view_made_spec : {M : Type 1} → statement M
+view_made_spec =
     tie.close
     (tie.spec
     slice-aggregate-link-ruled
