@@ -7,6 +7,7 @@ pub mod Sending
 pub mod Tested
 pub mod Extremes
 pub mod Choices
+pub mod Scanning
 pub mod Rows
 pub mod Said
 pub mod Widest

@@ -1,8 +1,8 @@
 -- A list of numbers of one width is a row of words: each step finds the next word, for its bytes are there; and two words of a width are the same
 -- exactly where their numbers are. So the chosen value is a member exactly where its number is in the row.
 -- Assumes nothing.
-use Rattle.std.proofs.Common.{◌≡◌, ℕ, zero, suc, ◌+◌, ◌-◌, ◌*◌, ◌^◌, ◌≤◌, Bool, true, false, eqb, ltb, leb, List, [], ◌∷◌, length, take, drop, sym, refl, ap, ◌∙◌, subst, arith, drop-drop, ltb-false, ne_eqb, eqb-true, leb-true}
-use borrow.Author.Tests.{eqb-false}
+use Rattle.std.proofs.Common.{◌≡◌, ℕ, zero, suc, ◌+◌, ◌-◌, ◌*◌, ◌^◌, ◌<◌, ◌≤◌, Bool, true, false, eqb, leb, List, [], ◌∷◌, length, take, drop, sym, refl, ap, ◌∙◌, subst, arith, lit≤, drop-drop, ne_eqb, eqb-true, leb-true}
+use borrow.Author.Tests.{eqb-false, lt-leb}
 use Rattle.layout.specs.Answer.{got, pick, after, means, field_at}
 use Rattle.layout.specs.Bytes.{bytes, number, cells}
 use Rattle.layout.specs.Grammar.{loose, num, as'}
@@ -17,13 +17,44 @@ use Rattle.wire.specs.declared.list.Step.TheVariants as step
 use Rattle.wire.specs.declared.value.Value as declared
 use Rattle.wire.specs.declared.value.Value.TheVariants as values
 use Rattle.wire.proofs.laws.Formats.{own_word}
-use Rattle.wire.proofs.laws.Kinds.{Numbers, below, above}
 use Rattle.panel.specs.Test.{is_member}
-use Rattle.wire.specs.Numbers.{is_in}
-use Rattle.panel.specs.Words.{laid_out, core_of}
+use Rattle.panel.specs.Words.{plain_width, Plain, one_byte, two_bytes, four_bytes, eight_bytes, is_in, laid_out, core_of}
 use Rattle.panel.proofs.Members.{Here, Turn, turn, over, same_core, member_here, member_later}
 
 -- ── the types ──
+
+pub data Numbers (t : ℕ) (w : ℕ) : Type 0 where
+  below : shape t ≡ one (sint w) → Numbers t w
+  above : shape t ≡ one (uint w) → Numbers t w
+
+none_above : (t : ℕ) → 8 < t → plain_width t ≡ 0
+unfolding plain_width
+none_above t h = rw (ne_eqb t 0 (λ e. omega arith), lt-leb t 2 (omega arith), lt-leb t 4 (omega arith), lt-leb t 6 (omega arith), lt-leb t 8 h)
+
+pub numbers : (t : ℕ) → (plain_width t ≡ 0 → ⊥) → Numbers t (plain_width t) × Plain (plain_width t)
+unfolding plain_width
+numbers zero h = absurd (h refl)
+numbers (suc zero) h = (below refl, one_byte)
+numbers (suc (suc zero)) h = (above refl, one_byte)
+numbers (suc (suc (suc zero))) h = (below refl, two_bytes)
+numbers (suc (suc (suc (suc zero)))) h = (above refl, two_bytes)
+numbers (suc (suc (suc (suc (suc zero))))) h = (below refl, four_bytes)
+numbers (suc (suc (suc (suc (suc (suc zero)))))) h = (above refl, four_bytes)
+numbers (suc (suc (suc (suc (suc (suc (suc zero))))))) h = (below refl, eight_bytes)
+numbers (suc (suc (suc (suc (suc (suc (suc (suc zero)))))))) h = (above refl, eight_bytes)
+numbers (suc (suc (suc (suc (suc (suc (suc (suc (suc n))))))))) h = absurd (h (none_above (suc (suc (suc (suc (suc (suc (suc (suc (suc n))))))))) (omega arith)))
+
+pub width_small : (t : ℕ) → plain_width t ≤ 8
+unfolding plain_width
+width_small t = go (eqb t 0) (leb t 2) (leb t 4) (leb t 6) (leb t 8)
+  where
+    go : (a b c d e : Bool) → pick a 0 (pick b 1 (pick c 2 (pick d 4 (pick e 8 0)))) ≤ 8
+    go true b c d e = lit≤ tt
+    go false true c d e = lit≤ tt
+    go false false true d e = lit≤ tt
+    go false false false true e = lit≤ tt
+    go false false false false true = lit≤ tt
+    go false false false false false = lit≤ tt
 
 no_string : {t w : ℕ} → Numbers t w → t ≡ 0xFFFF → ⊥
 no_string (below e) f = let z : shape 0xFFFF ≡ one (sint _) = rw f at e in zero_one (cc)
@@ -32,19 +63,17 @@ no_string (above e) f = let z : shape 0xFFFF ≡ one (uint _) = rw f at e in zer
 -- what was tested
 pub record Laid (w n first size own : ℕ) : Type 0 where
   pub some : w ≡ 0 → ⊥
-  pub few : w ≤ 8
   pub wide : own ≡ w
   pub there : n * w ≤ size - first
 
 pub laid : (w n first size own : ℕ) → laid_out w n first size own ≡ true → Laid w n first size own
 unfolding laid_out
-laid w n first size own e = go (eqb w 0) refl (ltb 8 w) refl (eqb own w) refl e
+laid w n first size own e = go (eqb w 0) refl (eqb own w) refl e
   where
-    go : (a : Bool) → eqb w 0 ≡ a → (m : Bool) → ltb 8 w ≡ m → (b : Bool) → eqb own w ≡ b → pick a false (pick m false (pick b (leb (n * w) (size - first)) false)) ≡ true → Laid w n first size own
-    go true f m k b g h = zero_one (cc)
-    go false f true k b g h = zero_one (cc)
-    go false f false k true g h = record { some = eqb-false w 0 f; few = ltb-false 8 w k; wide = eqb-true own w g; there = leb-true (n * w) (size - first) h }
-    go false f false k false g h = zero_one (cc)
+    go : (a : Bool) → eqb w 0 ≡ a → (b : Bool) → eqb own w ≡ b → pick a false (pick b (leb (n * w) (size - first)) false) ≡ true → Laid w n first size own
+    go true f b g h = zero_one (cc)
+    go false f true g h = record { some = eqb-false w 0 f; wide = eqb-true own w g; there = leb-true (n * w) (size - first) h }
+    go false f false g h = zero_one (cc)
 
 -- ── a step ──
 

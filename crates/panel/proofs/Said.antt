@@ -1,7 +1,7 @@
 -- `set_value` answers as specs/Said has it, from the description's own refusal to the bytes that go out; and what is said there determines the answer.
 -- Assumes nothing.
 use Rattle.std.proofs.Common.{◌≡◌, ℕ, zero, suc, ◌+◌, ◌-◌, ◌<◌, ◌≤◌, Bool, true, false, eqb, ltb, ◌⊎◌, List, ◌++◌, length, get_or, drop, sym, refl, ap, ◌∙◌, subst, inl, inr, zero-add, arith, take_all, ltb-false, ltb-true, le-ltb, lt-ltb, eqb-true, le-leb}
-use mathlib.Core.Option.{Option, some, none}
+use mathlib.Core.Option.{Option, none}
 use borrow.Author.Tests.{eqb-false, lt-leb}
 use Rattle.layout.specs.Answer.{Told, Answer, got, refused, pick, after, means, end_at, bad_text, bare}
 use Rattle.layout.specs.Bytes.{Bytes}
@@ -14,12 +14,13 @@ use Rattle.layout.proofs.laws.Did.{kept}
 use Rattle.layout.proofs.laws.Meets.{filled}
 use Rattle.layout.proofs.laws.Numbers.{zero_one}
 use Rattle.layout.proofs.laws.Reading.{refused_meant}
+use Rattle.session.specs.Payloads.{filling}
 use Rattle.session.specs.Transaction.{Turn, turn, Makes}
 use Rattle.session.specs.declared.transaction.Session.{Session}
 use Rattle.wire.specs.Codecs.{value}
 use Rattle.wire.specs.Description.{PropInfo}
 use Rattle.wire.specs.Layout.{Kind, one, many, string, undef, shape_or, kinds, shape, STR, Val, Value, Form, range, list, no_form, Reading, Property}
-use Rattle.wire.specs.Places.{Located, value_at, shape_in, filled_at, filling_all}
+use Rattle.wire.specs.Places.{Located, value_at, shape_in, filled_at}
 use Rattle.wire.specs.Property.{property_at, property_in}
 use Rattle.wire.proofs.laws.Formats.{value_format}
 use Rattle.wire.proofs.laws.Kinds.{KindAt, a_kind, no_kind, kind_at}
@@ -167,11 +168,11 @@ module _ (there : Bool) (d : List ℕ) (t : ℕ) (chosen : List ℕ) where
 
   -- the chosen bytes as one value
   value_refused : {u : Told} → value_at t chosen 0 ≡ refused u → value_of t chosen ≡ refused u
-  unfolding value_of filling_all means after
+  unfolding value_of filling means after
   value_refused e = rw e
 
   value_got : {l : Located} {m : ℕ} → value_at t chosen 0 ≡ got l m → value_of t chosen ≡ pick (ltb m (length chosen)) (refused (bare TRAIL)) (got (shape_in (shape t) chosen l) m)
-  unfolding value_of filling_all filled_at means after
+  unfolding value_of filling filled_at means after
   value_got {l} {m} e = rw e (go (ltb m (length chosen)))
     where
       go : (b : Bool) → means (shape_in (shape t) chosen) (after (pick b (refused (bare TRAIL)) (got (tt {0}) m)) (λ _ end. got l end)) ≡ pick b (refused (bare TRAIL)) (got (shape_in (shape t) chosen l) m)

@@ -54,6 +54,8 @@ word_order true (pos m) (negsuc n) (signed h) (signed k) = refl
 word_order true (negsuc m) (pos n) (signed h) (signed k) = refl
 word_order true (negsuc m) (negsuc n) (signed h) (signed k) = leb_same (2 ^ 64 - suc m) (2 ^ 64 - suc n) n m (λ e. omega arith) (λ e. omega arith)
 word_order false (pos m) (pos n) (natural h) (natural k) = refl
+word_order false (pos m) (negsuc n) h k = elim k [ ]
+word_order false (negsuc m) y h k = elim h [ ]
 
 word_same : (b : Bool) (x y : ℤ) → Fit b x → Fit b y → eqb (whole x).word (whole y).word ≡ same_z x y
 word_same true (pos m) (pos n) (signed h) (signed k) = refl
@@ -61,6 +63,8 @@ word_same true (pos m) (negsuc n) (signed h) (signed k) = ne_eqb m (2 ^ 64 - suc
 word_same true (negsuc m) (pos n) (signed h) (signed k) = ne_eqb (2 ^ 64 - suc m) n (λ e. omega arith)
 word_same true (negsuc m) (negsuc n) (signed h) (signed k) = eqb_same (2 ^ 64 - suc m) (2 ^ 64 - suc n) m n (λ e. omega arith) (λ e. omega arith)
 word_same false (pos m) (pos n) (natural h) (natural k) = refl
+word_same false (pos m) (negsuc n) h k = elim k [ ]
+word_same false (negsuc m) y h k = elim h [ ]
 
 -- what is above the smaller one
 pub gap : (low v : ℤ) → le_z low v ≡ true → (d : ℕ) × (v -ℤ low ≡ pos d)
@@ -81,6 +85,9 @@ word_span true (negsuc m) (negsuc n) (signed h) (signed k) e =
     rw f (omega (arith, leb-true n m e))
 word_span false (pos zero) (pos n) (natural h) (natural k) e = omega arith
 word_span false (pos (suc m)) (pos n) (natural h) (natural k) e = let f : ltb n (suc m) ≡ false = le-ltb n (suc m) (leb-true (suc m) n e) in rw f (omega (arith, leb-true (suc m) n e))
+word_span false (pos zero) (negsuc n) h k e = elim k [ ]
+word_span false (pos (suc m)) (negsuc n) h k e = elim k [ ]
+word_span false (negsuc m) v h k e = elim h [ ]
 
 -- ── the test of a range ──
 

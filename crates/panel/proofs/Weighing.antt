@@ -10,12 +10,13 @@ use Rattle.layout.proofs.laws.Accepted.{accepted}
 use Rattle.layout.proofs.laws.Meets.{filled, reads_exactly}
 use Rattle.layout.proofs.laws.Reading.{at_most, parted, picked, unmeant, one_got}
 use Rattle.layout.proofs.laws.Numbers.{zero_one}
+use Rattle.session.specs.Payloads.{filling}
 use Rattle.wire.specs.Description as placed
 use Rattle.wire.specs.Description.{PropInfo}
 use Rattle.wire.specs.Layout as L
 use Rattle.wire.specs.Layout.{Kind, sint, uint, width, meaning, Shape, one, shape, Val, num, Value, Reading}
 use Rattle.wire.specs.List.{place_from, place_of, list_at}
-use Rattle.wire.specs.Places.{num_at, Located, number_is, shape_at, value_at, shape_in, filled_at, filling_all}
+use Rattle.wire.specs.Places.{num_at, Located, number_is, shape_at, value_at, shape_in, filled_at}
 use Rattle.wire.specs.Property.{property_at, property_in}
 use Rattle.wire.specs.Worded.{Yields}
 use Rattle.wire.specs.declared.property.Slot.{Slot}
@@ -61,8 +62,8 @@ integers (types.unsigned w h) = (uint w, refl, record { side = false; of = pos; 
 -- ── chosen bytes ──
 
 -- those that one value fills are a word of it
-is_word : (t : ℕ) (s : List ℕ) → Bytes s → (l : Located) (n : ℕ) → filling_all (value_at t) s ≡ got l n → Value t loose s (shape_in (shape t) s l)
-unfolding filling_all
+is_word : (t : ℕ) (s : List ℕ) → Bytes s → (l : Located) (n : ℕ) → filling (value_at t) s ≡ got l n → Value t loose s (shape_in (shape t) s l)
+unfolding filling
 is_word t s h l n e =
     let a = parted (value_at t s 0) _ e in
     let b = parted (filled_at s a.1) _ a.3 in
@@ -73,7 +74,7 @@ is_word t s h l n e =
 
 -- chosen bytes that are one number
 chosen_number : (k : Kind) (t : ℕ) → shape t ≡ one k → (s : List ℕ) → Bytes s → (l : Located) → StandsAs t s l → (m : ℕ) × (l ≡ number_is (meaning k m)) × (m < 256 ^ width k)
-unfolding filling_all shape_at
+unfolding filling shape_at
 chosen_number k t kind s h l st =
     let a = parted (value_at t s 0) _ st.1 in
     let b = parted (filled_at s a.1) _ a.3 in
@@ -181,5 +182,5 @@ chosen_word there d chosen h t c n e =
     let s = picked (suits a.0 t) _ _ a.3 in
     let b = parted (value_of t chosen) _ s.1 in
     let c = picked (allows a.0.form b.0) _ _ b.3 in
-    let l = unmeant (shape_in (shape t) chosen) (filling_all (value_at t) chosen) b.2 in
+    let l = unmeant (shape_in (shape t) chosen) (filling (value_at t) chosen) b.2 in
     subst (Value t loose chosen) (l.2 ∙ ap (λ (y : Chosen). y.value) (one_got c.1).0) (is_word t chosen h l.0 b.1 l.1)

@@ -1,13 +1,14 @@
 -- Two answers of `set_value` itself on bytes, computed: INT64 from the lowest to the highest by 1, the lowest chosen and the highest chosen. Both go out.
 -- Assumes nothing.
-use Rattle.std.proofs.Common.{◌≡◌, ℕ, ◌+◌, ◌≤◌, true, List, [], ◌∷◌, ◌++◌, length, drop, ℤ, pos, negsuc, refl, ap, arith}
+use Rattle.std.proofs.Common.{◌≡◌, ℕ, ◌≤◌, true, List, [], ◌∷◌, ◌++◌, length, drop, ℤ, pos, negsuc, refl, ap, arith}
 use Rattle.layout.specs.Answer.{Answer, got, after, means, located, span_at, field_at}
 use Rattle.layout.specs.Bytes.{bytes, number}
+use Rattle.session.specs.Payloads.{filling}
 use Rattle.session.specs.Transaction.{Turn, turn, Makes}
 use Rattle.session.specs.declared.transaction.Session.{Session}
 use Rattle.wire.specs.Codecs.{value}
 use Rattle.wire.specs.Layout.{signed, num, int}
-use Rattle.wire.specs.Places.{shape_at, filled_at, filling_all}
+use Rattle.wire.specs.Places.{shape_at, filled_at}
 use Rattle.wire.specs.Property.{property_at, enable_at, values_at, range_at, form_at}
 use Rattle.panel.specs.Panel.{reading_of, value_of, suits, chosen_in, panel_said}
 use Rattle.panel.specs.Said.{two_containers}
@@ -34,11 +35,11 @@ abbrev high : ℤ
 high = pos 9223372036854775807
 
 lowest_chosen : chosen_in true widest 7 lowest ≡ got (record { property = 0x5001; value = num (int low) }) 8
-unfolding chosen_in reading_of value_of suits after means located span_at field_at number filling_all filled_at shape_at property_at enable_at values_at range_at form_at signed on_step in_range allows
+unfolding chosen_in reading_of value_of suits after means located span_at field_at number filling filled_at shape_at property_at enable_at values_at range_at form_at signed on_step in_range allows
 lowest_chosen = refl
 
 highest_chosen : chosen_in true widest 7 highest ≡ got (record { property = 0x5001; value = num (int high) }) 8
-unfolding chosen_in reading_of value_of suits after means located span_at field_at number filling_all filled_at shape_at property_at enable_at values_at range_at form_at signed on_step in_range allows
+unfolding chosen_in reading_of value_of suits after means located span_at field_at number filling filled_at shape_at property_at enable_at values_at range_at form_at signed on_step in_range allows
 highest_chosen = refl
 
 lowest_word : (value 7).write (num (int low)) ≡ lowest

@@ -8,10 +8,11 @@ use Rattle.wire.specs.Codecs.{value as codec}
 use Rattle.wire.specs.Layout.{Shape, one, many, string, undef, shape, Val, Value, Form, range, list, no_form, Reading}
 use Rattle.wire.specs.Description as placed
 use Rattle.wire.specs.Description.{PropInfo}
-use Rattle.wire.specs.Places.{Located, value_at, shape_in, filling_all}
+use Rattle.wire.specs.Places.{Located, value_at, shape_in}
 use Rattle.wire.specs.Property.{property_at, form_in, property_in}
 use Rattle.wire.specs.declared.container.Command.{Command}
 use Rattle.session.specs.Calls.{command_of}
+use Rattle.session.specs.Payloads.{filling}
 use Rattle.session.specs.Transaction.{with_data, Makes, says_made}
 use Rattle.session.specs.declared.transaction.Made.{Made}
 use Rattle.session.specs.declared.transaction.Session.{Session}
@@ -28,7 +29,7 @@ reading_of there description = means (property_in description) (property_at ther
 
 -- the chosen bytes as one value of the type: 1 or 2 with its place in them, then 3 where bytes follow
 unfoldable pub value_of : ℕ → List ℕ → Answer Val
-value_of type chosen = means (shape_in (shape type) chosen) (filling_all (value_at type) chosen)
+value_of type chosen = means (shape_in (shape type) chosen) (filling (value_at type) chosen)
 
 -- ── 15 ──
 
@@ -96,7 +97,7 @@ pub record Suited (description : List ℕ) (x : PropInfo) : Type 0 where
 
 -- chosen bytes that are one value of the type, by its place; and by its word
 abbrev pub StandsAs : ℕ → List ℕ → Located → Type 0
-StandsAs type chosen l = (n : ℕ) × (filling_all (value_at type) chosen ≡ got l n)
+StandsAs type chosen l = (n : ℕ) × (filling (value_at type) chosen ≡ got l n)
 
 abbrev pub IsValue : ℕ → List ℕ → Type 0
 IsValue type chosen = (v : Val) × Value type loose chosen v

@@ -1,7 +1,7 @@
 -- The tests that the code makes. An integer of 8 to 64 bits is held by its sign and its word of 64 bits, two's complement; a span is taken modulo 2^64.
 -- That they hold exactly where the integers' own do is proved in proofs/Spans; that values are compared by their meaning, in proofs/Members.
 -- Assumes nothing.
-use Rattle.std.specs.Prelude.{◌≡◌, ℕ, ◌+◌, ◌-◌, ◌*◌, ◌%◌, ◌^◌, Bool, true, false, not, List, [], length, take, drop, ◌==◌, nat_le, nat_lt}
+use Rattle.std.specs.Prelude.{◌≡◌, ℕ, ◌+◌, ◌-◌, ◌*◌, ◌%◌, ◌^◌, Bool, true, false, not, List, [], ◌∷◌, length, take, drop, ◌==◌, nat_le, nat_lt}
 use Rattle.std.specs.Borrow.{Bor}
 use Rattle.std.specs.Int.Signed.{non_neg}
 use Rattle.layout.specs.Answer.{Answer, got, refused, pick}
@@ -78,6 +78,22 @@ pub record Finds (t : ℕ) (l : Values) (chosen : List ℕ) (r : Bool) : Type 0 
 
 -- ── a row of numbers ──
 
--- so many values of a width of 8 to 64 bits are there from a place on, and the chosen bytes are as wide
+-- how many bytes each value of a type has, where all have 1, 2, 4 or 8; 0 for any other type
+unfoldable pub plain_width : ℕ → ℕ
+plain_width t = pick (t == 0) 0 (pick (nat_le t 2) 1 (pick (nat_le t 4) 2 (pick (nat_le t 6) 4 (pick (nat_le t 8) 8 0))))
+
+-- a width that numbers have here
+pub data Plain : ℕ → Type 0 where
+  one_byte : Plain 1
+  two_bytes : Plain 2
+  four_bytes : Plain 4
+  eight_bytes : Plain 8
+
+-- whether a number is one of these
+unfoldable pub is_in : ℕ → List ℕ → Bool
+is_in x [] = false
+is_in x (y ∷ ys) = pick (y == x) true (is_in x ys)
+
+-- so many values of a width that the type has are there from a place on, and the chosen bytes are as wide
 unfoldable pub laid_out : ℕ → ℕ → ℕ → ℕ → ℕ → Bool
-laid_out w n first size own = pick (w == 0) false (pick (nat_lt 8 w) false (pick (own == w) (nat_le (n * w) (size - first)) false))
+laid_out w n first size own = pick (w == 0) false (pick (own == w) (nat_le (n * w) (size - first)) false)

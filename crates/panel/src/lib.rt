@@ -1,11 +1,14 @@
 // The shutter panel: from a property's description and a chosen value to the SetDevicePropValue command with its data, or a refusal.
 // A value that the description does not allow is never sent. What is right is in specs/.
+#![tactic(auto)]
+
 ghost use Rattle.std.specs.Prelude.{◌≡◌};
 ghost use Rattle.layout.specs.Answer.{means};
 ghost use Rattle.wire.specs.Layout.{shape};
-ghost use Rattle.wire.specs.Places.{shape_in};
+ghost use Rattle.wire.specs.Places.{value_at, shape_in};
 ghost use Rattle.wire.specs.Property.{has_enable, says_form, info_from, property_in};
-ghost use Rattle.wire.specs.Says.{located};
+ghost use Rattle.wire.specs.Says.{located, says_value};
+ghost use Rattle.session.specs.Payloads.{filling};
 ghost use Rattle.session.specs.Transaction.{Makes, says_made};
 ghost use Rattle.panel.specs.Panel.{is_undef, TellsRange, TellsSuits, Suited, StandsAs, IsValue, weighed, Chosen, chosen_in, says_choice, Sends, panel_said};
 ghost use Rattle.panel.specs.Test.{allows};
@@ -13,10 +16,12 @@ ghost use Rattle.panel.specs.Words.{is_nothing};
 
 mod member;
 mod range;
+mod scan;
 
 use layout::{Refusal, Written};
+pub use range::word_of;
 use session::{Made, Session};
-use wire::{Cursor, Form, PropInfo, PropLayout, ReadProperty, ReadValue, STRING, Value};
+use wire::{Cursor, Form, PropInfo, PropLayout, ReadProperty, ReadValue, Span, Value};
 
 // The panel's own refusals: another type, UNDEF or no range of integers; and a value that is not allowed.
 pub const TYPE: u8 = 15;
@@ -24,6 +29,8 @@ pub const TYPE: u8 = 15;
 pub const VALUE: u8 = 16;
 
 const SET_DEVICE_PROP_VALUE: u16 = 0x1016;
+
+pub(crate) const STR: u16 = 0xFFFF;
 
 // The property of a choice that is allowed, with the place after the chosen value.
 #[derive(Drop)]
@@ -83,6 +90,19 @@ fn fitting(x: PropInfo, code: u16) -> bool
     true
 }
 
+// The bytes as one value of the type: 3 where bytes follow.
+fn whole_value(chosen: &[u8], code: u16) -> ReadValue
+    ensures { says_value result ≡ filling (value_at code) chosen.now }
+{
+    match (Cursor { at: 0 }).value(chosen, code) {
+        ReadValue::Got(v, next) => match next.end(chosen) {
+            Span::Till(end) => ReadValue::Got(v, end),
+            Span::Refused(f) => ReadValue::Refused(f),
+        },
+        ReadValue::Refused(f) => ReadValue::Refused(f),
+    }
+}
+
 // Whether the description's form allows the value v that the chosen bytes are.
 fn allowed(description: &[u8], x: PropInfo, chosen: &[u8], v: Value) -> bool
     requires { Suited description.now (info_from x) × StandsAs x.data_type chosen.now (located v) }
@@ -106,7 +126,7 @@ fn weigh(description: &[u8], x: PropInfo, chosen: &[u8]) -> Choice
     requires { Suited description.now (info_from x) }
     ensures { says_choice result ≡ weighed description.now (info_from x) chosen.now }
 {
-    match wire::whole_value(chosen, x.data_type) {
+    match whole_value(chosen, x.data_type) {
         ReadValue::Got(v, end) => {
             if allowed(description, x, chosen, v) {
                 Choice::Taken(x.property_code, end)
@@ -140,7 +160,7 @@ fn send(session: Session, property: u16, code: u16, chosen: &[u8], out: &mut [u8
 {
     let params = [property as u32];
     let c = session::command_of(SET_DEVICE_PROP_VALUE, &params);
-    if code != STRING {
+    if code != STR {
         return session::command_with_data(session, c, chosen, out);
     }
     let mut text = [0u8; 511];

@@ -1,14 +1,15 @@
 // A list of values, compared by their meaning.
 ghost use Rattle.std.specs.Prelude.{◌≡◌, true, false};
-ghost use Rattle.panel.specs.Words.{core_of, rest, Gives, Finds, laid_out};
+ghost use Rattle.panel.specs.Words.{core_of, rest, Gives, Finds};
 
-use wire::{STRING, Step};
+use crate::{STR, scan};
+use wire::Step;
 
 // The bytes by which a value is compared: of a string the units before the last, else all of them.
 fn core<'a>(code: u16, word: &'a [u8]) -> &'a [u8]
     ensures { result.now ≡ core_of code word.now }
 {
-    if code != STRING {
+    if code != STR {
         return word;
     }
     if word.len() < 3 {
@@ -62,22 +63,6 @@ fn is_member_by_steps(
     }
 }
 
-// Whether n values of the width, of 8 to 64 bits, are there from a place on, and the chosen bytes are as wide.
-fn laid_out(w: usize, n: u16, first: usize, size: usize, own: usize) -> bool
-    ensures { result ≡ laid_out w n first size own }
-{
-    if w == 0 {
-        return false;
-    }
-    if 8 < w {
-        return false;
-    }
-    if own != w {
-        return false;
-    }
-    n as usize * w <= layout::left(size, first)
-}
-
 // The same; numbers of up to 64 bits stand in a row, and are looked through as words.
 pub(crate) fn is_member(
     description: &[u8],
@@ -89,9 +74,9 @@ pub(crate) fn is_member(
     requires { Gives code (rest description code first count) }
     ensures { Finds code (rest description.entry code first count) chosen.now result }
 {
-    let w = wire::integer_width(code);
-    if laid_out(w, count, first, description.len(), chosen.len()) {
-        return wire::has_number(description, first, count, w, wire::number_of(chosen, 0, w));
+    let w = scan::plain_width(code);
+    if scan::laid_out(w, count, first, description.len(), chosen.len()) {
+        return scan::holds(description, first, count as usize, w, chosen);
     }
     is_member_by_steps(description, code, first, count, chosen)
 }

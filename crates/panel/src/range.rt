@@ -1,5 +1,6 @@
 // A range of integers of 8 to 64 bits.
 ghost use Rattle.std.specs.Prelude.{◌≡◌, ◌+◌, ◌-◌, ◌%◌, ◌^◌};
+ghost use Rattle.wire.specs.Codecs.{unsigned};
 ghost use Rattle.wire.specs.Places.{value_at};
 ghost use Rattle.wire.specs.Says.{located};
 ghost use Rattle.panel.specs.Words.{whole_of, whole_from, at_most, at_end, at_step, whole_range};
@@ -7,10 +8,20 @@ ghost use Rattle.panel.specs.Words.{whole_of, whole_from, at_most, at_end, at_st
 use wire::{Cursor, ReadValue, Value};
 
 // An integer: whether it is below 0, and its word of 64 bits, two's complement.
-#[derive(Drop)]
+#[derive(Clone, Copy)]
 pub struct Whole {
     pub below: bool,
     pub word: u64,
+}
+
+// An integer's word of 64 bits, two's complement.
+pub fn word_of(z: i64) -> u64
+    ensures { result ≡ unsigned (2 ^ 64) z }
+{
+    if z < 0 {
+        return 0xFFFF_FFFF_FFFF_FFFF - ((-1 - z) as u64);
+    }
+    z as u64
 }
 
 pub(crate) fn whole_of(v: Value) -> Whole
@@ -19,7 +30,7 @@ pub(crate) fn whole_of(v: Value) -> Whole
     match v {
         Value::Int(z) => Whole {
             below: z < 0,
-            word: wire::signed_word(z),
+            word: word_of(z),
         },
         Value::Nat(n) => Whole {
             below: false,

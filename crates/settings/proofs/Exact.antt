@@ -46,7 +46,7 @@ entries_chain {e} s {at} {n} k st none = let same : at ≡ n = omega (arith, st.
 entries_chain {e} s {at} {n} k st (one_more {u} {v} {x} g h) =
     let p = split u v st in
     let a = entry_complete e s at u (at + length u) x (omega (arith, p.1.till)) p.0 g in
-    let b = entries_chain s k p.1 h in
+    let b = entries_chain s {at = at + length u} k p.1 h in
     (a.0 ∷ b.0, link a.1 b.1, ap (λ y. y ∷ settings_in s b.0) a.2 ∙ ap (λ l. x ∷ l) b.2)
 
 chain_entries : {e : Edition} (s : List ℕ) → Bytes s → {at n : ℕ} {xs : List Entry} → Chain e s at xs n → (w : List ℕ) × Entries e w (settings_in s xs)

@@ -42,6 +42,7 @@ held k (x ∷ xs) e = go (same_key k x.key) refl e (λ f. held k xs f)
 
 pub not_held : (k : Key) (xs : List Setting) → holds k xs ≡ false → Held k xs → ⊥
 unfolding holds
+not_held k [] e x = elim x [ ]
 not_held k (x ∷ xs) e (here f) = let g : same_key k x.key ≡ true = true_same k x.key f in let h : true ≡ false = rw g at e in zero_one (cc)
 not_held k (x ∷ xs) e (later m) = go (same_key k x.key) e (λ f. not_held k xs f m)
   where

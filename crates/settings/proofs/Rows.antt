@@ -22,7 +22,7 @@ use Rattle.settings.specs.Refusals.{FULL}
 use Rattle.settings.specs.Layout.{Key, Keyed, key_discrete, decided, same_key, holds, limit}
 use Rattle.settings.specs.Entry.{entry_at, key_slot, key_in}
 use Rattle.settings.specs.Row.{settings_in, row_from, row_of, says_checked}
-use Rattle.settings.specs.Search.{Chain, stop, link, Chained, place_of, Seeks, end_from, end_of}
+use Rattle.settings.specs.Search.{Chain, stop, link, Chained, place_of, Seeks, told_from, told_end}
 use Rattle.settings.specs.declared.entry.Edition.{Edition}
 use Rattle.settings.specs.declared.entry.Entry.{Entry}
 use Rattle.layout.specs.declared.Checked.TheVariants as checked
@@ -104,8 +104,8 @@ module _ {e : Edition} {s : List ℕ} {at n : ℕ} {x : Entry} (sp : Spelt e s a
 -- ── entries one behind the other ──
 
 -- the length at an entry's front says where it ends
-pub end_spelt : {e : Edition} {s : List ℕ} {at n : ℕ} {x : Entry} → Spelt e s at x n → end_of s at ≡ n
-end_spelt {s} {at} sp = ap (end_from at (length s)) (number_complete 4 sp.read.length_there sp.read.length_small) ∙ sym sp.read.till
+pub end_spelt : {e : Edition} {s : List ℕ} {at n : ℕ} {x : Entry} → Spelt e s at x n → told_end s at ≡ n
+end_spelt {s} {at} sp = ap (told_from at (length s)) (number_complete 4 sp.read.length_there sp.read.length_small) ∙ sym sp.read.till
 
 -- the bytes from behind the length up to the type are the key's word
 pub key-word : {e : Edition} {s : List ℕ} {at n : ℕ} {x : Entry} → Spelt e s at x n → Keyed tidy (bytes_of s (key_slot x)) (key_in s x)
@@ -150,7 +150,7 @@ module _ (s : List ℕ) (h : Bytes s) where
     pub going : Chained s upto → Going s upto w 0
     going c = record { some = c; left = λ k g e xs d. (xs, d, refl) }
 
-    pub step : {at : ℕ} → Going s upto w at → at < upto → (at + 14 ≤ end_of s at) × (end_of s at ≤ upto) × (end_of s at ≤ length s)
+    pub step : {at : ℕ} → Going s upto w at → at < upto → (at + 14 ≤ told_end s at) × (told_end s at ≤ upto) × (told_end s at ≤ length s)
     step go lt =
         let t = turn go.some.2 lt in
         let later = ahead t.rest in
@@ -167,18 +167,18 @@ module _ (s : List ℕ) (h : Bytes s) where
             let is : place_of s k upto (t.first ∷ t.others) ≡ t.first.start = rw same in
             sym (l.2 ∙ ap (place_of s k upto) t.is ∙ is ∙ t.spelt.read.start)
 
-    pub miss : {at : ℕ} → Going s upto w at → at < upto → (take (length w) (drop (at + 4) s) ≡ w → ⊥) → Going s upto w (end_of s at)
+    pub miss : {at : ℕ} → Going s upto w at → at < upto → (take (length w) (drop (at + 4) s) ≡ w → ⊥) → Going s upto w (told_end s at)
     unfolding place_of
     miss {at} go lt other = record { some = let o = onward go.some.2 in (go.some.0, o.0, o.1); left = λ k g e xs c. passed k g e xs (go.left k g e xs c) }
       where
-        next_is : {e : Edition} {ys : List Entry} (t : Turn s e at ys upto) → t.next ≡ end_of s at
+        next_is : {e : Edition} {ys : List Entry} (t : Turn s e at ys upto) → t.next ≡ told_end s at
         next_is t = sym (end_spelt t.spelt)
 
-        onward : {e : Edition} {ys : List Entry} → Chain e s at ys upto → (zs : List Entry) × Chain e s (end_of s at) zs upto
+        onward : {e : Edition} {ys : List Entry} → Chain e s at ys upto → (zs : List Entry) × Chain e s (told_end s at) zs upto
         onward {e} c = let t = turn c lt in (t.others, subst (λ i. Chain e s i t.others upto) (next_is t) t.rest)
 
         passed : (k : Key) → Keyed tidy w k → (e : Edition) (xs : List Entry) → (ys : List Entry) × Chain e s at ys upto × (place_of s k upto xs ≡ place_of s k upto ys)
-            → (zs : List Entry) × Chain e s (end_of s at) zs upto × (place_of s k upto xs ≡ place_of s k upto zs)
+            → (zs : List Entry) × Chain e s (told_end s at) zs upto × (place_of s k upto xs ≡ place_of s k upto zs)
         passed k g e xs l =
             let t = turn l.1 lt in
             let differs : same_key k (key_in s t.first) ≡ false = false_same k (key_in s t.first) (λ i. other (has_key t.spelt w k g i)) in

@@ -27,7 +27,7 @@ use Rattle.settings.specs.Refusals.{FULL}
 use Rattle.settings.specs.Layout.{Key, Keyed, Setting, same_key, holds, limit}
 use Rattle.settings.specs.Entry.{whole_at, is_tidy, tidy_at, entry_at, alone_in, key_slot, key_in, setting_in}
 use Rattle.settings.specs.Row.{settings_in, row_of, says_checked, Whole, first_by}
-use Rattle.settings.specs.Search.{Chain, stop, link, place_of, Seeks, end_of}
+use Rattle.settings.specs.Search.{Chain, stop, link, place_of, Seeks, end_from, end_of, told_end}
 use Rattle.settings.specs.Store.{put, without, entry_word, row_word, is_full, put_said, store_said, remove_said, settings_of, setting_of}
 use Rattle.settings.specs.declared.entry.Edition.{Edition}
 use Rattle.settings.specs.declared.entry.Entry.{Entry}
@@ -82,9 +82,14 @@ module _ (e : Edition) (s : List ℕ) (h : Bytes s) where
   chain_word {at} (link {m} {x} f c) = spelt_cut (entry_sound e s at x m h f) ∙ ap (λ w. entry_word (setting_in s x) ++ w) (chain_word c)
 
   -- no entry starts at the end
-  end_none : end_of s (length s) ≡ length s
-  unfolding field_at after
+  end_none : end_of e s (length s) ≡ length s
+  unfolding entry_at whole_at field_at after
   end_none = rw (span_short (length s) 4 s (length s) (omega arith))
+
+  -- nor does a length stand there
+  told_none : told_end s (length s) ≡ length s
+  unfolding field_at after
+  told_none = rw (span_short (length s) 4 s (length s) (omega arith))
 
   -- the bytes before the place where a key stands, and those behind the entry there
   module _ (k : Key) where
@@ -115,14 +120,14 @@ module _ (e : Edition) (s : List ℕ) (h : Bytes s) where
             ap (λ n. take n (drop at s)) sum ∙ take-add (m - at) (later - m) (drop at s) ∙ ap (λ w. w ++ take (later - m) (drop (m - at) (drop at s))) (spelt_word sp)
             ∙ ap (λ w. entry_word (setting_in s x) ++ take (later - m) w) on-from ∙ ap (λ w. entry_word (setting_in s x) ++ w) on
 
-    past_word : {at : ℕ} {xs : List Entry} → Chain e s at xs (length s) → drop (end_of s (place_of s k (length s) xs)) s ≡ row_word (past k (settings_in s xs))
+    past_word : {at : ℕ} {xs : List Entry} → Chain e s at xs (length s) → drop (told_end s (place_of s k (length s) xs)) s ≡ row_word (past k (settings_in s xs))
     unfolding place_of past row_word
-    past_word stop = ap (λ i. drop i s) end_none ∙ drop_of_length-le s {i = length s} (omega arith)
+    past_word stop = ap (λ i. drop i s) told_none ∙ drop_of_length-le s {i = length s} (omega arith)
     past_word {at} (link {m} {x} {xs} f c) = go (entry_sound e s at x m h f) (chain_word c) (past_word c) (same_key k (key_in s x))
       where
-        go : Spelt e s at x m → drop m s ≡ row_word (settings_in s xs) → drop (end_of s (place_of s k (length s) xs)) s ≡ row_word (past k (settings_in s xs)) → (b : Bool)
-            → drop (end_of s (pick b x.start (place_of s k (length s) xs))) s ≡ row_word (pick b (settings_in s xs) (past k (settings_in s xs)))
-        go sp rest on true = let end : end_of s x.start ≡ m = ap (end_of s) sp.read.start ∙ end_spelt sp in rw end rest
+        go : Spelt e s at x m → drop m s ≡ row_word (settings_in s xs) → drop (told_end s (place_of s k (length s) xs)) s ≡ row_word (past k (settings_in s xs)) → (b : Bool)
+            → drop (told_end s (pick b x.start (place_of s k (length s) xs))) s ≡ row_word (pick b (settings_in s xs) (past k (settings_in s xs)))
+        go sp rest on true = let end : told_end s x.start ≡ m = ap (told_end s) sp.read.start ∙ end_spelt sp in rw end rest
         go sp rest on false = on
 
 pub row_append : (a b : List Setting) → row_word (a ++ b) ≡ row_word a ++ row_word b
@@ -134,30 +139,44 @@ row_append (x ∷ a) b = ap (λ w. entry_word x ++ w) (row_append a b) ∙ sym (
 
 module _ {e : Edition} {s : List ℕ} {count : ℕ} (h : Bytes s) (row : Known e s count) (k : Key) {p : ℕ} (place : p ≡ place_of s k (length s) row.entries) where
   -- where the entry with the key ends
-  pub place_end : (p ≤ end_of s p) × (end_of s p ≤ length s)
+  pub place_end : (p ≤ told_end s p) × (told_end s p ≤ length s)
   place_end = go (first_by (key_in s) k row.entries) (first_place e s h row.chain k)
     where
-      go : (o : Option Entry) → First e s h k row.entries (length s) o → (p ≤ end_of s p) × (end_of s p ≤ length s)
+      go : (o : Option Entry) → First e s h k row.entries (length s) o → (p ≤ told_end s p) × (told_end s p ≤ length s)
       go o (at_place {x = y} a b m i j) =
           let is : p ≡ y.start = place ∙ b in
           let sp = entry_sound e s y.start y m h i in
-          let end : end_of s p ≡ m = ap (end_of s) is ∙ end_spelt sp in
+          let end : told_end s p ≡ m = ap (told_end s) is ∙ end_spelt sp in
           (omega (arith, is, end, forward s h sp), omega (arith, end, sp.read.within))
       go o (nowhere a) =
           let is : p ≡ length s = place ∙ a in
-          let end : end_of s p ≡ length s = ap (end_of s) is ∙ end_none e s h in
+          let end : told_end s p ≡ length s = ap (told_end s) is ∙ told_none e s h in
           (omega (arith, is, end), omega (arith, end))
 
+  -- it ends where its reader says
+  pub end_same : end_of e s p ≡ told_end s p
+  end_same = go (first_by (key_in s) k row.entries) (first_place e s h row.chain k)
+    where
+      go : (o : Option Entry) → First e s h k row.entries (length s) o → end_of e s p ≡ told_end s p
+      go o (at_place {x = y} a b m i j) =
+          let is : p ≡ y.start = place ∙ b in
+          let sp = entry_sound e s y.start y m h i in
+          let read : end_of e s y.start ≡ m = ap (end_from y.start) i in
+          ap (end_of e s) is ∙ read ∙ sym (ap (told_end s) is ∙ end_spelt sp)
+      go o (nowhere a) =
+          let is : p ≡ length s = place ∙ a in
+          ap (end_of e s) is ∙ end_none e s h ∙ sym (ap (told_end s) is ∙ told_none e s h)
+
   -- the row with something else there
-  pub place-word : (mid : List ℕ) {till : ℕ} → till ≡ end_of s p → take p s ++ mid ++ drop till s ≡ row_word (ahead_of k (settings_in s row.entries)) ++ (mid ++ row_word (past k (settings_in s row.entries)))
+  pub place-word : (mid : List ℕ) {till : ℕ} → till ≡ told_end s p → take p s ++ mid ++ drop till s ≡ row_word (ahead_of k (settings_in s row.entries)) ++ (mid ++ row_word (past k (settings_in s row.entries)))
   place-word mid {till} j =
       let front : place_of s k (length s) row.entries - 0 ≡ p = omega (arith, place) in
       let ahead-is : take p s ≡ row_word (ahead_of k (settings_in s row.entries)) = ap (λ n. take n s) (sym front) ∙ ahead_word e s h k row.chain in
-      let past_is : drop till s ≡ row_word (past k (settings_in s row.entries)) = ap (λ n. drop n s) (j ∙ ap (end_of s) place) ∙ past_word e s h k row.chain in
+      let past_is : drop till s ≡ row_word (past k (settings_in s row.entries)) = ap (λ n. drop n s) (j ∙ ap (told_end s) place) ∙ past_word e s h k row.chain in
       rw (ahead-is, past_is) (append_assoc (row_word (ahead_of k (settings_in s row.entries))) mid (row_word (past k (settings_in s row.entries))))
 
   -- with nothing there: a removal
-  pub removed_done : {mid : List ℕ} → mid ≡ [] → {till : ℕ} → till ≡ end_of s p → {out new : List ℕ} {a : Answer (Unit {0})} → Wrote (says (take p s ++ mid ++ drop till s)) out a new → Wrote (remove_said (settings_of e s) k) out a new
+  pub removed_done : {mid : List ℕ} → mid ≡ [] → {till : ℕ} → till ≡ told_end s p → {out new : List ℕ} {a : Answer (Unit {0})} → Wrote (says (take p s ++ mid ++ drop till s)) out a new → Wrote (remove_said (settings_of e s) k) out a new
   unfolding remove_said means
   removed_done {mid} i {till} j {out} {new} {a} wrote =
       let rs = settings_in s row.entries in
@@ -226,10 +245,13 @@ module _ {e : Edition} {s w : List ℕ} {count : ℕ} {x : Entry} {p : ℕ} (k :
   unfolding put_said
   stored_full g i {out} {t} j = refusal (said ∙ rw (sym full_is ∙ sym g ∙ i) (ap no (sym j)))
 
-  pub sought_end : (p ≤ end_of s p) × (end_of s p ≤ length s)
+  pub sought_end : (p ≤ told_end s p) × (told_end s p ≤ length s)
   sought_end = place_end k.bytes row (key_in w x) place
 
-  pub stored_done : {b : Bool} → b ≡ pick (ltb p (length s)) false (leb limit count) → b ≡ false → {till : ℕ} → till ≡ end_of s p → {out new : List ℕ} {a : Answer (Unit {0})}
+  pub sought_same : end_of e s p ≡ told_end s p
+  sought_same = end_same k.bytes row (key_in w x) place
+
+  pub stored_done : {b : Bool} → b ≡ pick (ltb p (length s)) false (leb limit count) → b ≡ false → {till : ℕ} → till ≡ told_end s p → {out new : List ℕ} {a : Answer (Unit {0})}
       → Wrote (says (take p s ++ w ++ drop till s)) out a new → Wrote (store_said (settings_of e s) (setting_of e w)) out a new
   unfolding put_said row_word
   stored_done g i {till} j {out} {new} {a} wrote =

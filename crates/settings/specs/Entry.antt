@@ -75,7 +75,7 @@ abbrev pub word_tidy : ℕ → List ℕ → Bool
 word_tidy type w = pick (eqb type STR) (tidy_text w) true
 
 unfoldable pub value_tidy : List ℕ → Entry → Bool
-value_tidy s x = word_tidy x.code (bytes_of s x.value)
+value_tidy s x = pick (eqb x.code STR) (tidy_text (bytes_of s x.value)) true
 
 unfoldable pub is_tidy : List ℕ → Entry → Bool
 is_tidy s x = pick (serial_tidy s x) (value_tidy s x) false

@@ -70,10 +70,18 @@ held_from (refused t) = found.NotHeld
 unfoldable pub held_at : Edition → List ℕ → ℕ → Found
 held_at e s at = pick (ltb at (length s)) (held_from (entry_at e s at)) found.NotHeld
 
--- where it ends, by the length that stands there; the bytes' end where no length stands
-abbrev pub end_from : ℕ → ℕ → Answer ℕ → ℕ
-end_from at end (got len n) = at + len
-end_from at end (refused t) = end
+-- where it ends; the place itself where none starts
+abbrev pub end_from : ℕ → Answer Entry → ℕ
+end_from at (got x n) = n
+end_from at (refused t) = at
 
-abbrev pub end_of : List ℕ → ℕ → ℕ
-end_of s at = end_from at (length s) (num_at 4 s at)
+abbrev pub end_of : Edition → List ℕ → ℕ → ℕ
+end_of e s at = end_from at (entry_at e s at)
+
+-- where it ends, by the length that stands there; the bytes' end where no length stands
+abbrev pub told_from : ℕ → ℕ → Answer ℕ → ℕ
+told_from at end (got len n) = at + len
+told_from at end (refused t) = end
+
+abbrev pub told_end : List ℕ → ℕ → ℕ
+told_end s at = told_from at (length s) (num_at 4 s at)

@@ -9,14 +9,14 @@ use layout::Refusal;
 use wire::{Cursor, Part, ReadPart, ReadU16, ReadU32, ReadValue, Slot, Span};
 
 // Which kinds are known: 16 in the first, 16 and 17 in the second.
-#[derive(Drop)]
+#[derive(Clone, Copy)]
 pub enum Edition {
     One,
     Two,
 }
 
 // An entry that starts at a place: its numbers, and its serial and its value by their places. An entry for any serial has no units.
-#[derive(Drop)]
+#[derive(Clone, Copy)]
 pub struct Entry {
     pub start: usize,
     pub kind: u16,

@@ -6,6 +6,7 @@ ghost use Rattle.layout.specs.Written.{Wrote, says, says_written};
 ghost use Rattle.settings.specs.Entry.{alone_in};
 ghost use Rattle.settings.specs.Row.{Whole, asked_key};
 ghost use Rattle.settings.specs.Store.{store_said, remove_said, settings_of, setting_of};
+ghost use Rattle.settings.specs.Search.{end_of};
 
 use crate::{Edition, Entry, ReadEntry, entry, row};
 use layout::{Checked, Written};
@@ -29,6 +30,16 @@ fn replaced(row: &[u8], from: usize, till: usize, entry: &[u8], out: &mut [u8]) 
     let a = layout::copy(row, 0, from, out, 0);
     let b = layout::copy(entry, 0, entry.len(), out, a);
     Written::Done(layout::copy(row, till, after, out, b))
+}
+
+// Where the entry ends that starts at a place; the place itself at the row's end.
+fn end_of(edition: Edition, row: &[u8], at: usize) -> usize
+    ensures { result ≡ end_of edition row.now at }
+{
+    match entry::entry_at(edition, row, at) {
+        ReadEntry::Got(_, next) => next.at,
+        ReadEntry::Refused(_) => at,
+    }
 }
 
 // Whether there is no room for one more: the key is new, found at the row's end, and the row has as many as it can.
@@ -57,7 +68,7 @@ fn put_in(
     if is_full(count, place, row.len()) {
         return Written::Refused(layout::plain(crate::FULL));
     }
-    replaced(row, place, row::end_of(row, place), entry, out)
+    replaced(row, place, end_of(edition, row, place), entry, out)
 }
 
 // The new row, written whole to the front of the part lent to it. A refused store changes nothing.

@@ -1,4 +1,6 @@
 // Settings kept from reel to reel: a row of entries, each a property's value for one vendor extension, and for a camera of one serial or of any. What is right is in specs/.
+#![tactic(auto)]
+
 mod entry;
 mod keep;
 mod row;
@@ -6,6 +8,7 @@ mod spell;
 
 pub use entry::{Edition, Entry, ReadEntry, entry_at};
 pub use keep::{remove, store};
+pub use layout::Checked;
 pub use row::{Found, check_row, find};
 pub use spell::write_entry;
 

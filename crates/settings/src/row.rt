@@ -3,7 +3,7 @@ ghost use Rattle.std.specs.Prelude.{◌≡◌, ◌+◌, ◌≤◌, length, ◌++
 ghost use Rattle.layout.specs.Bytes.{bytes};
 ghost use Rattle.layout.specs.Written.{Put};
 ghost use Rattle.settings.specs.Row.{row_of, says_checked, any_key, own_key, asked_key, found_in};
-ghost use Rattle.settings.specs.Search.{TellsAt, Chained, Places, Seeks, Spells, Best, held_at, end_of};
+ghost use Rattle.settings.specs.Search.{TellsAt, Chained, Places, Seeks, Spells, Best, held_at, told_end};
 
 use crate::{Edition, Entry, ReadEntry, entry};
 use layout::{Checked, Refusal, Written};
@@ -50,8 +50,8 @@ fn has_at(s: &[u8], at: usize, key: &[u8]) -> bool
 
 // Where the entry ends that starts at a place, by the length in its first four bytes; the bytes' end where these are not there.
 pub(crate) fn end_of(s: &[u8], at: usize) -> usize
-    requires { end_of s.now at ≤ length s.now }
-    ensures { result ≡ end_of s.now at }
+    requires { told_end s.now at ≤ length s.now }
+    ensures { result ≡ told_end s.now at }
 {
     match (Cursor { at }).u32(s) {
         ReadU32::Got(len, _) => at + len as usize,
@@ -101,7 +101,13 @@ pub fn check_row(edition: Edition, row: &[u8]) -> Checked
 }
 
 // The front of a key's word, at a place.
-pub(crate) fn put_front(kind: u16, vendor: u32, property: u16, out: &mut [u8], at: usize) -> usize
+pub(crate) fn put_front_at(
+    kind: u16,
+    vendor: u32,
+    property: u16,
+    out: &mut [u8],
+    at: usize,
+) -> usize
     requires { at + 8 ≤ length out.old }
     ensures { Put out.old at (bytes 2 kind ++ bytes 4 vendor ++ bytes 2 property) out.new result }
 {
@@ -110,13 +116,21 @@ pub(crate) fn put_front(kind: u16, vendor: u32, property: u16, out: &mut [u8], a
     layout::store(out, b, 2, property as u64)
 }
 
+// The front of a key's word.
+fn put_front(kind: u16, vendor: u32, property: u16, out: &mut [u8]) -> usize
+    requires { 8 ≤ length out.old }
+    ensures { Put out.old 0 (bytes 2 kind ++ bytes 4 vendor ++ bytes 2 property) out.new result }
+{
+    put_front_at(kind, vendor, property, out, 0)
+}
+
 // Where the entry for any serial starts.
 fn any_place(row: &[u8], vendor: u32, property: u16) -> usize
     requires { Chained row.now (length row.now) }
     ensures { Places row.now (length row.now) (any_key vendor property) result }
 {
     let mut key = [0u8; 8];
-    put_front(crate::ANY, vendor, property, &mut key, 0);
+    put_front(crate::ANY, vendor, property, &mut key);
     seek(row, row.len(), &key)
 }
 
@@ -127,7 +141,7 @@ fn put_own(vendor: u32, property: u16, serial: &[u16], out: &mut [u8]) -> Writte
 {
     match wire::write_text(serial, &mut out[8..]) {
         Written::Done(n) => {
-            let a = put_front(crate::OWN, vendor, property, out, 0);
+            let a = put_front(crate::OWN, vendor, property, out);
             Written::Done(a + n)
         }
         Written::Refused(f) => Written::Refused(f),

@@ -59,7 +59,7 @@ fn put_fields(
 {
     let size = 14 + serial.len() + value.len();
     let a = layout::store(out, 0, 4, size as u64);
-    let b = row::put_front(kind, vendor, property, out, a);
+    let b = row::put_front_at(kind, vendor, property, out, a);
     let c = layout::copy(serial, 0, serial.len(), out, b);
     let d = layout::store(out, c, 2, code as u64);
     layout::copy(value, 0, value.len(), out, d)

@@ -7,47 +7,47 @@ use Rattle.panel.proofs.Weighing.{range_allows, list_gives, list_allows, none_al
 use Rattle.panel.proofs.allowed.Statement.{statement}
 use Rattle.panel.proofs.allowed.Tie as tie
 
-is-member-requires : tie.Need-is-member-requires
+is-member-requires : tie.Need-is_member-requires
 is-member-requires c κs =
-    let s = c.before.before.before in
-    let k = s.before.before in
+    let s = c in
+    let k = s in
     let a = k.args in
-    let d = bytes_of a.description.now (λ i. (s.before.shared-slice-known.given i).fits) in
-    let g = bytes_of a.chosen.now (λ i. (s.shared-slice-known2.given i).fits) in
-    list_gives a.description.now a.chosen.now d g (info_from a.x) k.requires.0 (located a.v) k.requires.1 _ _ (ap says_form c.before.form2.given.1) a.description refl
+    let d = bytes_of a.description.now (λ i. (s.shared_slice_known-1.given i).fits) in
+    let g = bytes_of a.chosen.now (λ i. (s.shared_slice_known-2-1.given i).fits) in
+    list_gives a.description.now a.chosen.now d g (info_from a.x) k.requires.0 (located a.v) k.requires.1 _ _ (ap says_form c.in-List.is) a.description refl
 
-returns : tie.Need-returns
+returns : tie.Need-returns-in-Range
 returns c =
-    let m = c.before.before.before.before.before.before in
-    let s = m.before.before in
-    let k = s.before.before in
+    let m = c in
+    let s = m in
+    let k = s in
     let a = k.args in
-    let d = bytes_of a.description.now (λ i. (s.before.shared-slice-known.given i).fits) in
-    let g = bytes_of a.chosen.now (λ i. (s.shared-slice-known2.given i).fits) in
-    c.in-range.ensures
-    ∙ rw (c.before.whole_of.ensures, c.before.before.whole-at3.ensures, c.before.before.before.whole-at2.ensures, c.before.before.before.before.whole-at.ensures)
-    (range_allows a.description.now a.chosen.now d g (info_from a.x) k.requires.0 (located a.v) k.requires.1 _ _ _ (ap says_form m.form.given.1))
+    let d = bytes_of a.description.now (λ i. (s.shared_slice_known-1.given i).fits) in
+    let g = bytes_of a.chosen.now (λ i. (s.shared_slice_known-2-1.given i).fits) in
+    c.in_range.ensures
+    ∙ rw (c.whole_of.ensures, c.whole_at-in-Range-2.ensures, c.whole_at-in-Range.ensures, c.whole_at.ensures)
+    (range_allows a.description.now a.chosen.now d g (info_from a.x) k.requires.0 (located a.v) k.requires.1 _ _ _ (ap says_form m.in-Range.is))
 
-returns-2 : tie.Need-returns-2
+returns-2 : tie.Need-returns-in-List
 returns-2 c =
-    let s = c.before.before.before.before in
-    let k = s.before.before in
+    let s = c in
+    let k = s in
     let a = k.args in
-    let d = bytes_of a.description.now (λ i. (s.before.shared-slice-known.given i).fits) in
-    let g = bytes_of a.chosen.now (λ i. (s.shared-slice-known2.given i).fits) in
-    list_allows a.description.now a.chosen.now d g (info_from a.x) k.requires.0 (located a.v) k.requires.1 _ _ (ap says_form c.before.before.form2.given.1) a.description refl c.is_member.result c.is_member.ensures
+    let d = bytes_of a.description.now (λ i. (s.shared_slice_known-1.given i).fits) in
+    let g = bytes_of a.chosen.now (λ i. (s.shared_slice_known-2-1.given i).fits) in
+    list_allows a.description.now a.chosen.now d g (info_from a.x) k.requires.0 (located a.v) k.requires.1 _ _ (ap says_form c.in-List.is) a.description refl c.is_member.result c.is_member.ensures
 
-returns-3 : tie.Need-returns-3
+returns-3 : tie.Need-returns-in-Absent
 returns-3 c =
-    let s = c.before.before in
-    let k = s.before.before in
+    let s = c in
+    let k = s in
     let a = k.args in
-    let d = bytes_of a.description.now (λ i. (s.before.shared-slice-known.given i).fits) in
-    let g = bytes_of a.chosen.now (λ i. (s.shared-slice-known2.given i).fits) in
-    none_allows a.description.now a.chosen.now d g (info_from a.x) k.requires.0 (located a.v) k.requires.1 (ap says_form c.enum_told.given.1)
+    let d = bytes_of a.description.now (λ i. (s.shared_slice_known-1.given i).fits) in
+    let g = bytes_of a.chosen.now (λ i. (s.shared_slice_known-2-1.given i).fits) in
+    none_allows a.description.now a.chosen.now d g (info_from a.x) k.requires.0 (located a.v) k.requires.1 (ap says_form c.in-Absent.is)
 
-pub allowed-spec : {M : Type 1} → statement M
-allowed-spec =
+pub allowed_spec : {M : Type 1} → statement M
+allowed_spec =
     tie.close
     (tie.spec
     (λ c. search rules)

@@ -10,31 +10,31 @@ use Rattle.panel.proofs.choose.Tie as tie
 
 weigh-requires : tie.Need-weigh-requires
 weigh-requires c κs =
-    let x = c.before.before.before in
-    let a = x.before.before.before.before.before.args in
-    let read = sym (heard says_property x.x.given.1 x.before.before.property-info.ensures) in
-    suited (has_enable a.l) a.description.now a.chosen.now a.code (info_from x.x.given.0.0) _ read (sym (c.before.fitting.ensures a.description.now) ∙ c.if1.true)
+    let x = c in
+    let a = x.args in
+    let read = sym (heard says_property x.in-Got.is x.property_info.ensures) in
+    suited (has_enable a.l) a.description.now a.chosen.now a.code (info_from x.in-Got.x) _ read (sym (c.fitting.ensures a.description.now) ∙ c.if-fitting.true)
 
-returns : tie.Need-returns
+returns : tie.Need-returns-then-fitting
 returns c =
-    let x = c.before.before.before.before in
-    let a = x.before.before.before.before.before.args in
-    let read = sym (heard says_property x.x.given.1 x.before.before.property-info.ensures) in
-    c.weigh.ensures ∙ chosen_weighed (has_enable a.l) a.description.now a.chosen.now a.code (info_from x.x.given.0.0) _ read (sym (c.before.before.fitting.ensures a.description.now) ∙ c.before.if1.true)
+    let x = c in
+    let a = x.args in
+    let read = sym (heard says_property x.in-Got.is x.property_info.ensures) in
+    c.weigh.ensures ∙ chosen_weighed (has_enable a.l) a.description.now a.chosen.now a.code (info_from x.in-Got.x) _ read (sym (c.fitting.ensures a.description.now) ∙ c.if-fitting.true)
 
-returns-2 : tie.Need-returns-2
+returns-2 : tie.Need-returns-else-fitting
 unfolding means
 returns-2 c =
-    let x = c.before.before.before.before in
-    let a = x.before.before.before.before.before.args in
-    let read = sym (heard says_property x.x.given.1 x.before.before.property-info.ensures) in
-    ap refused c.plain.ensures ∙ sym (ap (means (λ (c : Chosen). c.property)) (chosen_other (has_enable a.l) a.description.now a.chosen.now a.code (info_from x.x.given.0.0) _ read (sym (c.before.before.fitting.ensures a.description.now) ∙ c.before.if1.false)))
+    let x = c in
+    let a = x.args in
+    let read = sym (heard says_property x.in-Got.is x.property_info.ensures) in
+    ap refused c.plain.ensures ∙ sym (ap (means (λ (c : Chosen). c.property)) (chosen_other (has_enable a.l) a.description.now a.chosen.now a.code (info_from x.in-Got.x) _ read (sym (c.fitting.ensures a.description.now) ∙ c.if-fitting.false)))
 
-returns-3 : tie.Need-returns-3
+returns-3 : tie.Need-returns-in-Refused
 unfolding means
 returns-3 c =
-    let a = c.before.before.before.before.before.before.args in
-    let read = sym (heard says_property c.before.f.given.1 c.before.before.before.property-info.ensures) in
+    let a = c.args in
+    let read = sym (heard says_property c.in-Refused.is c.property_info.ensures) in
     sym (ap (means (λ (c : Chosen). c.property)) (chosen_unread (has_enable a.l) a.description.now a.chosen.now a.code _ read))
 
 pub choose_spec : {M : Type 1} → statement M

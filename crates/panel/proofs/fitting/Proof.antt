@@ -5,30 +5,30 @@ use Rattle.panel.specs.Panel.{suits}
 use Rattle.panel.proofs.fitting.Statement.{statement}
 use Rattle.panel.proofs.fitting.Tie as tie
 
-returns : tie.Need-returns
+returns : tie.Need-returns-then-code-x
 unfolding suits
-returns c s = rw (ne_eqb _ _ c.if1.true)
+returns c s = rw (ne_eqb _ _ c.if-code-x.true)
 
-returns-2 : tie.Need-returns-2
+returns-2 : tie.Need-returns-then-is_undef
 unfolding suits
-returns-2 c s = rw (eq-eqb _ _ c.before.before.if1.false, sym c.before.is-undef.ensures ∙ c.if2.true)
+returns-2 c s = rw (eq-eqb _ _ c.if-code-x.false, sym c.is_undef.ensures ∙ c.if-is_undef.true)
 
-returns-3 : tie.Need-returns-3
+returns-3 : tie.Need-returns-then-code-ge1
 unfolding suits
 returns-3 c s =
-    rw (eq-eqb _ _ c.before.before.before.before.before.if1.false, sym c.before.before.before.before.is-undef.ensures ∙ c.before.before.before.if2.false, sym (c.before.before.is-range.ensures c.before.before.before.before.before.before.before.args.x.data_type s) ∙ c.before.if3.true, le-leb _ _ c.if4.true)
+    rw (eq-eqb _ _ c.if-code-x.false, sym c.is_undef.ensures ∙ c.if-is_undef.false, sym (c.is_range.ensures c.args.x.data_type s) ∙ c.if-is_range.true, le-leb _ _ c.if-code-ge1.true)
 
-returns-4 : tie.Need-returns-4
+returns-4 : tie.Need-returns-else-code-ge1
 unfolding suits
 returns-4 c s =
-    rw (eq-eqb _ _ c.before.before.before.before.before.if1.false, sym c.before.before.before.before.is-undef.ensures ∙ c.before.before.before.if2.false, sym (c.before.before.is-range.ensures c.before.before.before.before.before.before.before.args.x.data_type s) ∙ c.before.if3.true, lt-leb _ _ c.if4.false)
+    rw (eq-eqb _ _ c.if-code-x.false, sym c.is_undef.ensures ∙ c.if-is_undef.false, sym (c.is_range.ensures c.args.x.data_type s) ∙ c.if-is_range.true, lt-leb _ _ c.if-code-ge1.false)
 
-returns-5 : tie.Need-returns-5
+returns-5 : tie.Need-returns
 unfolding suits
 returns-5 c s =
-    rw (eq-eqb _ _ c.before.before.before.before.if1.false, sym c.before.before.before.is-undef.ensures ∙ c.before.before.if2.false, sym (c.before.is-range.ensures c.before.before.before.before.before.before.args.x.data_type s) ∙ c.if3.false)
+    rw (eq-eqb _ _ c.if-code-x.false, sym c.is_undef.ensures ∙ c.if-is_undef.false, sym (c.is_range.ensures c.args.x.data_type s) ∙ c.if-is_range.false)
 
-pub fitting-spec : {M : Type 1} → statement M
-fitting-spec =
+pub fitting_spec : {M : Type 1} → statement M
+fitting_spec =
     tie.close
     (tie.spec returns (λ c κs. search rules) returns-2 (λ c κs. search rules) returns-3 returns-4 returns-5)

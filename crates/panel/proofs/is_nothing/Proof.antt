@@ -5,8 +5,8 @@ use Rattle.panel.specs.Words.{is_nothing}
 use Rattle.panel.proofs.is_nothing.Statement.{statement}
 use Rattle.panel.proofs.is_nothing.Tie as tie
 
-pub is-nothing-spec : {M : Type 1} → statement M
-is-nothing-spec =
+pub is_nothing_spec : {M : Type 1} → statement M
+is_nothing_spec =
     tie.close
     (tie.spec
     (λ c. search rules)
@@ -15,9 +15,9 @@ is-nothing-spec =
     (λ c. search rules)
     (λ c. search rules)
     (λ c. search rules)
-    (λ c. ap (λ v. is_nothing (located v)) (sym c.enum_told.given.1))
-    (λ c. ap (λ v. is_nothing (located v)) (sym c.enum-told2.given.1))
-    (λ c. ap (λ v. is_nothing (located v)) (sym c.enum-told3.given.1))
-    (λ c. ap (λ v. is_nothing (located v)) (sym c.enum-told4.given.1))
-    (λ c. ap (λ v. is_nothing (located v)) (sym c.enum-told5.given.1))
-    (λ c. ap (λ v. is_nothing (located v)) (sym c.enum-told6.given.1)))
+    (λ c. ap (λ v. is_nothing (located v)) (sym c.in-Int.is))
+    (λ c. ap (λ v. is_nothing (located v)) (sym c.in-Nat.is))
+    (λ c. ap (λ v. is_nothing (located v)) (sym c.in-Wide.is))
+    (λ c. ap (λ v. is_nothing (located v)) (sym c.in-Items.is))
+    (λ c. ap (λ v. is_nothing (located v)) (sym c.in-Text.is))
+    (λ c. ap (λ v. is_nothing (located v)) (sym c.in-Undef.is)))

@@ -5,13 +5,13 @@ use Rattle.panel.specs.Panel.{is_range}
 use Rattle.panel.proofs.is_range.Statement.{statement}
 use Rattle.panel.proofs.is_range.Tie as tie
 
-pub is-range-spec : {M : Type 1} → statement M
-is-range-spec =
+pub is_range_spec : {M : Type 1} → statement M
+is_range_spec =
     tie.close
     (tie.spec
     (λ c. search rules)
     (λ c. search rules)
     (λ c. search rules)
-    (λ c t s. ap (λ f. is_range (form_in t s (says_form f))) (sym c.enum_told.given.1))
-    (λ c t s. ap (λ f. is_range (form_in t s (says_form f))) (sym c.enum-told2.given.1))
-    (λ c t s. ap (λ f. is_range (form_in t s (says_form f))) (sym c.enum-told3.given.1)))
+    (λ c t s. ap (λ f. is_range (form_in t s (says_form f))) (sym c.in-Range.is))
+    (λ c t s. ap (λ f. is_range (form_in t s (says_form f))) (sym c.in-List.is))
+    (λ c t s. ap (λ f. is_range (form_in t s (says_form f))) (sym c.in-Absent.is)))

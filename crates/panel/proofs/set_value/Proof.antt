@@ -10,24 +10,24 @@ use Rattle.panel.proofs.set_value.Tie as tie
 
 send-requires : tie.Need-send-requires
 send-requires c κs =
-    let s = c.before.before.before.before.before.before in
-    let a = s.before.before.args in
-    chosen_is (has_enable a.l) a.description.now a.value.now a.code (bytes_of a.value.now (λ i. (s.shared-slice-known2.given i).fits)) _ _ (heard says_choice c.before.before.property.given.1 c.before.before.before.before.choose.ensures)
+    let s = c in
+    let a = s.args in
+    chosen_is (has_enable a.l) a.description.now a.value.now a.code (bytes_of a.value.now (λ i. (s.shared_slice_known-2-1.given i).fits)) _ _ (heard says_choice c.in-Taken.is c.choose.ensures)
 
-returns : tie.Need-returns
+returns : tie.Need-returns-in-Taken
 returns c =
-    let p = c.before.before.before.before.before in
-    let s = p.before.before.before.before in
-    let a = s.before.before.args in
-    makes_chosen (has_enable a.l) a.description.now a.value.now a.code (bytes_of a.value.now (λ i. (s.shared-slice-known2.given i).fits)) _ _ (heard says_choice p.property.given.1 p.before.before.choose.ensures) c.before.before.send.ensures
+    let p = c in
+    let s = p in
+    let a = s.args in
+    makes_chosen (has_enable a.l) a.description.now a.value.now a.code (bytes_of a.value.now (λ i. (s.shared_slice_known-2-1.given i).fits)) _ _ (heard says_choice p.in-Taken.is p.choose.ensures) c.send.ensures
 
-returns-2 : tie.Need-returns-2
+returns-2 : tie.Need-returns-in-Refused
 returns-2 c =
-    let a = c.before.before.before.before.before.before.before.args in
-    makes_refused (has_enable a.l) a.description.now a.value.now a.code _ (heard says_choice c.before.f.given.1 c.before.before.before.choose.ensures)
+    let a = c.args in
+    makes_refused (has_enable a.l) a.description.now a.value.now a.code _ (heard says_choice c.in-Refused.is c.choose.ensures)
 
-pub set-value-spec : {M : Type 1} → statement M
-set-value-spec =
+pub set_value_spec : {M : Type 1} → statement M
+set_value_spec =
     tie.close
     (tie.spec
     (λ c κs. search rules)

@@ -9,27 +9,27 @@ use Rattle.panel.proofs.weigh.Tie as tie
 
 allowed-requires : tie.Need-allowed-requires
 allowed-requires c κs =
-    let v = c.before in
-    (v.before.before.before.before.before.requires, (_, sym (heard says_value v.v.given.1 v.before.before.whole-value.ensures)))
+    let v = c in
+    (v.requires, (_, sym (heard says_value v.in-Got.is v.whole_value.ensures)))
 
-returns : tie.Need-returns
+returns : tie.Need-returns-then-allowed
 unfolding weighed value_of means after
 returns c =
-    let v = c.before.before.before in
-    rw (← heard says_value v.v.given.1 v.before.before.whole-value.ensures, sym c.before.allowed.ensures ∙ c.if1.true)
+    let v = c in
+    rw (← heard says_value v.in-Got.is v.whole_value.ensures, sym c.allowed.ensures ∙ c.if-allowed.true)
 
-returns-2 : tie.Need-returns-2
+returns-2 : tie.Need-returns-else-allowed
 unfolding weighed value_of means after
 returns-2 c =
-    let v = c.before.before.before.before in
-    rw (c.plain.ensures, ← heard says_value v.v.given.1 v.before.before.whole-value.ensures, sym c.before.before.allowed.ensures ∙ c.before.if1.false)
+    let v = c in
+    rw (c.plain.ensures, ← heard says_value v.in-Got.is v.whole_value.ensures, sym c.allowed.ensures ∙ c.if-allowed.false)
 
-returns-3 : tie.Need-returns-3
+returns-3 : tie.Need-returns-in-Refused
 unfolding weighed value_of means after
-returns-3 c = rw (← heard says_value c.before.f.given.1 c.before.before.before.whole-value.ensures)
+returns-3 c = rw (← heard says_value c.in-Refused.is c.whole_value.ensures)
 
-pub weigh-spec : {M : Type 1} → statement M
-weigh-spec =
+pub weigh_spec : {M : Type 1} → statement M
+weigh_spec =
     tie.close
     (tie.spec
     (λ c κs. search rules)

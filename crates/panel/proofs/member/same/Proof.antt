@@ -4,32 +4,32 @@ use Rattle.layout.proofs.laws.Numbers.{zero_one}
 use Rattle.panel.proofs.member.same.Statement.{statement}
 use Rattle.panel.proofs.member.same.Tie as tie
 
-abbrev invariant-loop : tie.invariant-loop
+abbrev invariant-loop : tie.invariant-loop-i
 invariant-loop a b i₀ i = ((k : ℕ) → k < i → get_or a k 0 ≡ get_or b k 0) × (i ≤ length a) × (length a ≡ length b)
 
-abbrev decreases-loop : tie.decreases-loop
+abbrev decreases-loop : tie.decreases-loop-i
 decreases-loop a b i₀ i = length a - i
 
-returns : tie.Need-returns invariant-loop decreases-loop
-returns c = (λ e. zero_one (cc), λ e. absurd (c.if1.true (ap length e)))
+returns : tie.Need-returns-then-a-b invariant-loop decreases-loop
+returns c = (λ e. zero_one (cc), λ e. absurd (c.if-a-b.true (ap length e)))
 
-loop-holds : tie.Need-loop-init invariant-loop decreases-loop
-loop-holds c = (below_none _, omega arith, c.if1.false)
+loop-holds : tie.Need-loop-i-init invariant-loop decreases-loop
+loop-holds c = (below_none _, omega arith, c.if-a-b.false)
 
-returns-2 : tie.Need-returns-2 invariant-loop decreases-loop
+returns-2 : tie.Need-returns-then-a-i invariant-loop decreases-loop
 returns-2 c =
-    let i = c.before.before.before.before.loop.i in
-    (λ e. zero_one (cc), λ e. absurd (c.if2.true (ap (λ l. get_or l i 0) e)))
+    let i = c.loop-i.i in
+    (λ e. zero_one (cc), λ e. absurd (c.if-a-i.true (ap (λ l. get_or l i 0) e)))
 
-loop-again : tie.Need-loop-preserved invariant-loop decreases-loop
+loop-again : tie.Need-loop-i-preserved invariant-loop decreases-loop
 loop-again c =
-    let l = c.before.before.before.before.loop in
-    (below_more _ l.i l.invariant.0 c.if2.false, omega (arith, l.invariant.2), l.invariant.2)
+    let l = c.loop-i in
+    (below_more _ l.i l.invariant.0 c.if-a-i.false, omega (arith, l.invariant.2), l.invariant.2)
 
-returns-3 : tie.Need-returns-3 invariant-loop decreases-loop
+returns-3 : tie.Need-returns invariant-loop decreases-loop
 returns-3 c =
-    let l = c.before.loop in
-    let a = c.before.before.before.args in
+    let l = c.loop-i in
+    let a = c.args in
     let all : l.i ≡ length a.a.now = omega (arith, l.invariant.1) in
     (λ e. ext_get_or 0 a.a.now a.b.now l.invariant.2 (rw all at l.invariant.0), λ e. refl)
 

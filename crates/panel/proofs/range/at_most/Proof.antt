@@ -3,21 +3,21 @@ use Rattle.panel.specs.Words.{at_most}
 use Rattle.panel.proofs.range.at_most.Statement.{statement}
 use Rattle.panel.proofs.range.at_most.Tie as tie
 
-returns : tie.Need-returns
+returns : tie.Need-returns-then-b
 unfolding at_most
-returns c = rw (c.before.before.before.if1.true, c.before.before.if2.true)
+returns c = rw (c.if-a.true, c.if-b.true)
 
-returns-2 : tie.Need-returns-2
+returns-2 : tie.Need-returns-else-b
 unfolding at_most
-returns-2 c = rw (c.before.if1.true, c.if2.false)
+returns-2 c = rw (c.if-a.true, c.if-b.false)
 
-returns-3 : tie.Need-returns-3
+returns-3 : tie.Need-returns-then-b-2
 unfolding at_most
-returns-3 c = rw (c.before.if1.false, c.if3.true)
+returns-3 c = rw (c.if-a.false, c.if-b-2.true)
 
-returns-4 : tie.Need-returns-4
+returns-4 : tie.Need-returns-else-b-2
 unfolding at_most
-returns-4 c = rw (c.before.before.before.if1.false, c.before.before.if3.false)
+returns-4 c = rw (c.if-a.false, c.if-b-2.false)
 
-pub at-most-spec : {M : Type 1} → statement M
-at-most-spec = tie.close (tie.spec returns returns-2 returns-3 returns-4)
+pub at_most_spec : {M : Type 1} → statement M
+at_most_spec = tie.close (tie.spec returns returns-2 returns-3 returns-4)

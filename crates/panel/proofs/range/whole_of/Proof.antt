@@ -7,17 +7,17 @@ use Rattle.panel.proofs.Spans.{below_zero}
 use Rattle.panel.proofs.range.whole_of.Statement.{statement}
 use Rattle.panel.proofs.range.whole_of.Tie as tie
 
-returns : tie.Need-returns
+returns : tie.Need-returns-in-Int
 returns c =
-    let z = c.before.before.v.given.0.0 in
-    let same = to_z-of_z w64 z (record { sfits = c.before.known-told.given.0.1 }) in
-    rw (c.signed_word.ensures, same, below_zero z) (ap (λ v. whole_of (located v)) (sym c.before.before.v.given.1))
+    let z = c.in-Int.z in
+    let same = to_z-of_z w64 z (record { sfits = c.in-Int.known_told-1-own.given.0.1 }) in
+    rw (c.word_of.ensures, same, below_zero z) (ap (λ v. whole_of (located v)) (sym c.in-Int.is))
 
-returns-2 : tie.Need-returns-2
-returns-2 c = ap (λ v. whole_of (located v)) (sym c.before.v2.given.1)
+returns-2 : tie.Need-returns-in-Nat
+returns-2 c = ap (λ v. whole_of (located v)) (sym c.in-Nat.is)
 
-pub whole-of-spec : {M : Type 1} → statement M
-whole-of-spec =
+pub whole_of_spec : {M : Type 1} → statement M
+whole_of_spec =
     tie.close
     (tie.spec
     (λ c. search rules)
@@ -29,7 +29,7 @@ whole-of-spec =
     (λ c. search rules)
     returns
     returns-2
-    (λ c. ap (λ v. whole_of (located v)) (sym c.enum_told.given.1))
-    (λ c. ap (λ v. whole_of (located v)) (sym c.enum-told2.given.1))
-    (λ c. ap (λ v. whole_of (located v)) (sym c.enum-told3.given.1))
-    (λ c. ap (λ v. whole_of (located v)) (sym c.enum-told4.given.1)))
+    (λ c. ap (λ v. whole_of (located v)) (sym c.in-Wide.is))
+    (λ c. ap (λ v. whole_of (located v)) (sym c.in-Items.is))
+    (λ c. ap (λ v. whole_of (located v)) (sym c.in-Text.is))
+    (λ c. ap (λ v. whole_of (located v)) (sym c.in-Undef.is)))

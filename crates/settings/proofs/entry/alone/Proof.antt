@@ -9,31 +9,31 @@ use borrow.Author.Rules.{rules}
 use Rattle.settings.proofs.entry.alone.Statement.{statement}
 use Rattle.settings.proofs.entry.alone.Tie as tie
 
-tidy-at-requires : tie.Need-tidy-at-requires
+tidy-at-requires : tie.Need-tidy_at-requires
 tidy-at-requires c κs =
-    let x = c.before.before.before.before in
-    let a = x.before.before.before.before.args in
-    let h = bytes_of a.s.now (λ i. (x.before.before.before.shared-slice-known.given i).fits) in
-    read_within (whole_read a.edition a.s.now 0 h _ _ (sym (heard says_entry x.x.given.1 x.before.before.whole-at.ensures)))
+    let x = c in
+    let a = x.args in
+    let h = bytes_of a.s.now (λ i. (x.shared_slice_known-1.given i).fits) in
+    read_within (whole_read a.edition a.s.now 0 h _ _ (sym (heard says_entry x.in-Got.is x.whole_at.ensures)))
 
-returns : tie.Need-returns
+returns : tie.Need-returns-in-Till
 unfolding alone_in
 returns c =
-    let x = c.before.before.before.before.before in
-    follow _ (heard says_entry x.x.given.1 x.before.before.whole-at.ensures) (follow _ (heard says_span c.before.enum_told.given.1 c.before.before.before.end.ensures) c.tidy-at.ensures)
+    let x = c in
+    follow _ (heard says_entry x.in-Got.is x.whole_at.ensures) (follow _ (heard says_span c.in-Till.is c.end.ensures) c.tidy_at.ensures)
 
-returns-2 : tie.Need-returns-2
+returns-2 : tie.Need-returns-in-Refused-end
 unfolding alone_in
 returns-2 c =
-    let x = c.before.before.before.before.before in
-    follow _ (heard says_entry x.x.given.1 x.before.before.whole-at.ensures) (stop _ (heard says_span c.before.f.given.1 c.before.before.before.end.ensures))
+    let x = c in
+    follow _ (heard says_entry x.in-Got.is x.whole_at.ensures) (stop _ (heard says_span c.in-Refused-end.is c.end.ensures))
 
-returns-3 : tie.Need-returns-3
+returns-3 : tie.Need-returns-in-Refused
 unfolding alone_in
-returns-3 c = stop _ (heard says_entry c.before.f2.given.1 c.before.before.before.whole-at.ensures)
+returns-3 c = stop _ (heard says_entry c.in-Refused.is c.whole_at.ensures)
 
-pub alone-spec : {M : Type 1} → statement M
-alone-spec =
+pub alone_spec : {M : Type 1} → statement M
+alone_spec =
     tie.close
     (tie.spec
     (λ c κs. search rules)

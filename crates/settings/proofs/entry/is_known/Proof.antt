@@ -6,14 +6,14 @@ use borrow.Author.Rules.{rules}
 use Rattle.settings.proofs.entry.is_known.Statement.{statement}
 use Rattle.settings.proofs.entry.is_known.Tie as tie
 
-returns : tie.Need-returns
-returns c = ap (λ e. knows e c.before.before.args.kind) (sym c.enum_told.given.1)
+returns : tie.Need-returns-in-One
+returns c = ap (λ e. knows e c.args.kind) (sym c.in-One.is)
 
-returns-2 : tie.Need-returns-2
-returns-2 c = rw (c.before.enum-told2.given.1, eq-eqb c.before.before.before.args.kind 16 c.if1.true)
+returns-2 : tie.Need-returns-then-kind-eq-ANY
+returns-2 c = rw (c.in-Two.is, eq-eqb c.args.kind 16 c.if-kind-eq-ANY.true)
 
-returns-3 : tie.Need-returns-3
-returns-3 c = rw (c.before.enum-told2.given.1, ne_eqb c.before.before.before.args.kind 16 c.if1.false)
+returns-3 : tie.Need-returns-else-kind-eq-ANY
+returns-3 c = rw (c.in-Two.is, ne_eqb c.args.kind 16 c.if-kind-eq-ANY.false)
 
-pub is-known-spec : {M : Type 1} → statement M
-is-known-spec = tie.close (tie.spec (λ c. search rules) (λ c. search rules) returns returns-2 returns-3)
+pub is_known_spec : {M : Type 1} → statement M
+is_known_spec = tie.close (tie.spec (λ c. search rules) (λ c. search rules) returns returns-2 returns-3)

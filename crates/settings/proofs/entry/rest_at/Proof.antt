@@ -11,51 +11,51 @@ use borrow.Author.Rules.{rules}
 use Rattle.settings.proofs.entry.rest_at.Statement.{statement}
 use Rattle.settings.proofs.entry.rest_at.Tie as tie
 
-returns : tie.Need-returns
+returns : tie.Need-returns-then-len-lt6
 unfolding rest_at
-returns c = rw (lt-leb 6 c.before.before.before.args.len c.before.if1.true, c.plain.ensures)
+returns c = rw (lt-leb 6 c.args.len c.if-len-lt6.true, c.plain.ensures)
 
-returns-2 : tie.Need-returns-2
+returns-2 : tie.Need-returns-then-s-at
 unfolding rest_at
 returns-2 c =
-    let a = c.before.before.before.before.args in
-    rw (le-leb 6 a.len c.before.before.if1.false, c.end-at.ensures) (stop _ (sym (span_short a.at (a.len - 6) a.s.now a.at c.before.if2.true)))
+    let a = c.args in
+    rw (le-leb 6 a.len c.if-len-lt6.false, c.end_at.ensures) (stop _ (sym (span_short a.at (a.len - 6) a.s.now a.at c.if-s-at.true)))
 
-slice-aggregate-fields-at : tie.Need-slice-aggregate-fields-at
+slice-aggregate-fields-at : tie.Need-slice_bounds-fields_at-end
 slice-aggregate-fields-at c =
-    let a = c.before.before.before.before.args in
-    sym (length-take-le _ _ (omega (arith, c.before.if2.false, c.before.before.before.before.requires)))
+    let a = c.args in
+    sym (length-take-le _ _ (omega (arith, c.if-s-at.false, c.requires)))
 
-returns-3 : tie.Need-returns-3
+returns-3 : tie.Need-returns-then-next-end
 unfolding rest_at
 returns-3 c =
-    let k = c.before.before.before.before in
-    let i = k.before.before.before.before in
-    let a = i.before.before.before.args in
-    rw (le-leb 6 a.len i.before.if1.false)
-    (follow _ (sym (span_there a.at (a.len - 6) a.s.now a.at i.if2.false))
-    (follow _ (heard says_entry k.x.given.1 k.before.before.fields_at.ensures) (rw (ne_eqb _ _ c.before.if3.true, c.plain2.ensures))))
+    let k = c in
+    let i = k in
+    let a = i.args in
+    rw (le-leb 6 a.len i.if-len-lt6.false)
+    (follow _ (sym (span_there a.at (a.len - 6) a.s.now a.at i.if-s-at.false))
+    (follow _ (heard says_entry k.in-Got.is k.fields_at.ensures) (rw (ne_eqb _ _ c.if-next-end.true, c.plain-then-next-end.ensures))))
 
-returns-4 : tie.Need-returns-4
+returns-4 : tie.Need-returns-else-next-end
 unfolding rest_at
 returns-4 c =
-    let k = c.before.before.before in
-    let i = k.before.before.before.before in
-    let a = i.before.before.before.args in
-    rw (le-leb 6 a.len i.before.if1.false)
-    (follow _ (sym (span_there a.at (a.len - 6) a.s.now a.at i.if2.false))
-    (follow _ (heard says_entry k.x.given.1 k.before.before.fields_at.ensures) (rw (eq-eqb _ _ c.if3.false))))
+    let k = c in
+    let i = k in
+    let a = i.args in
+    rw (le-leb 6 a.len i.if-len-lt6.false)
+    (follow _ (sym (span_there a.at (a.len - 6) a.s.now a.at i.if-s-at.false))
+    (follow _ (heard says_entry k.in-Got.is k.fields_at.ensures) (rw (eq-eqb _ _ c.if-next-end.false))))
 
-returns-5 : tie.Need-returns-5
+returns-5 : tie.Need-returns-in-Refused
 unfolding rest_at
 returns-5 c =
-    let i = c.before.before.before.before.before in
-    let a = i.before.before.before.args in
-    rw (le-leb 6 a.len i.before.if1.false)
-    (follow _ (sym (span_there a.at (a.len - 6) a.s.now a.at i.if2.false)) (stop _ (heard says_entry c.before.f.given.1 c.before.before.before.fields_at.ensures)))
+    let i = c in
+    let a = i.args in
+    rw (le-leb 6 a.len i.if-len-lt6.false)
+    (follow _ (sym (span_there a.at (a.len - 6) a.s.now a.at i.if-s-at.false)) (stop _ (heard says_entry c.in-Refused.is c.fields_at.ensures)))
 
-pub rest-at-spec : {M : Type 1} → statement M
-rest-at-spec =
+pub rest_at_spec : {M : Type 1} → statement M
+rest_at_spec =
     tie.close
     (tie.spec
     (λ c κs. search rules)

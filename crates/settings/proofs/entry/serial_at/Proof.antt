@@ -5,13 +5,13 @@ use borrow.Author.Rules.{rules}
 use Rattle.settings.proofs.entry.serial_at.Statement.{statement}
 use Rattle.settings.proofs.entry.serial_at.Tie as tie
 
-returns : tie.Need-returns
+returns : tie.Need-returns-then-kind-ne-OWN
 unfolding serial_at
-returns c = rw (ne_eqb c.before.before.args.kind 17 c.if1.true)
+returns c = rw (ne_eqb c.args.kind 17 c.if-kind-ne-OWN.true)
 
-returns-2 : tie.Need-returns-2
+returns-2 : tie.Need-returns
 unfolding serial_at
-returns-2 c = rw (eq-eqb c.before.before.before.args.kind 17 c.before.if1.false) c.text.ensures
+returns-2 c = rw (eq-eqb c.args.kind 17 c.if-kind-ne-OWN.false) c.text.ensures
 
-pub serial-at-spec : {M : Type 1} → statement M
-serial-at-spec = tie.close (tie.spec returns (λ c κs. search rules) returns-2)
+pub serial_at_spec : {M : Type 1} → statement M
+serial_at_spec = tie.close (tie.spec returns (λ c κs. search rules) returns-2)

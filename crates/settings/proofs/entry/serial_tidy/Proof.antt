@@ -5,16 +5,16 @@ use borrow.Author.Rules.{rules}
 use Rattle.settings.proofs.entry.serial_tidy.Statement.{statement}
 use Rattle.settings.proofs.entry.serial_tidy.Tie as tie
 
-returns : tie.Need-returns
+returns : tie.Need-returns-then-x-ne-OWN
 unfolding serial_tidy
-returns c = rw (ne_eqb c.before.before.before.args.x.kind 17 c.if1.true)
+returns c = rw (ne_eqb c.args.x.kind 17 c.if-x-ne-OWN.true)
 
-returns-2 : tie.Need-returns-2
+returns-2 : tie.Need-returns
 unfolding serial_tidy
-returns-2 c = rw (eq-eqb c.before.before.before.before.before.before.before.args.x.kind 17 c.before.before.before.before.if1.false) c.tidy-text.ensures
+returns-2 c = rw (eq-eqb c.args.x.kind 17 c.if-x-ne-OWN.false) c.tidy_text.ensures
 
-pub serial-tidy-spec : {M : Type 1} → statement M
-serial-tidy-spec =
+pub serial_tidy_spec : {M : Type 1} → statement M
+serial_tidy_spec =
     tie.close
     (tie.spec
     returns

@@ -1,5 +1,7 @@
--- `settings::entry::tidy_text`: the tests in their order. Assumes nothing.
+-- `settings::entry::tidy_text`: the tests in their order. The test of the count is cited by what it says, not by its name, so that an edit of it is refused for its meaning.
+-- Assumes nothing.
 use borrow.Author.Tests.{eq-eqb, ne_eqb, le-leb, lt-leb}
+use native.Mathlib.Omega.{arith}
 use lib.ListN.{length, get_or}
 use Prim.Native.Nat.{◌-◌}
 use Rattle.settings.specs.Entry.{tidy_text}
@@ -7,38 +9,21 @@ use borrow.Author.Rules.{rules}
 use Rattle.settings.proofs.entry.tidy_text.Statement.{statement}
 use Rattle.settings.proofs.entry.tidy_text.Tie as tie
 
-returns : tie.Need-returns
+returns : tie.Need-returns-then-w-le1
 unfolding tidy_text
-returns c = rw (le-leb (length c.before.args.w.now) 1 c.if1.true)
+returns c = rw (le-leb (length c.args.w.now) 1 c.if-w-le1.true)
 
-returns-2 : tie.Need-returns-2
+pub tidy_text_spec : {M : Type 1} → statement M
 unfolding tidy_text
-returns-2 c =
-    let w = c.before.before.before.args.w.now in
-    rw (lt-leb (length w) 1 c.before.before.if1.false, eq-eqb (get_or w 0 0) 1 c.if2.true)
-
-returns-3 : tie.Need-returns-3
-unfolding tidy_text
-returns-3 c =
-    let w = c.before.before.before.before.before.args.w.now in
-    rw (lt-leb (length w) 1 c.before.before.before.before.if1.false, ne_eqb (get_or w 0 0) 1 c.before.before.if2.false, ne_eqb (get_or w (length w - 2) 0) 0 c.if3.true)
-
-returns-4 : tie.Need-returns-4
-unfolding tidy_text
-returns-4 c =
-    let w = c.before.before.before.before.before.before.args.w.now in
-    rw (lt-leb (length w) 1 c.before.before.before.before.before.if1.false, ne_eqb (get_or w 0 0) 1 c.before.before.before.if2.false, eq-eqb (get_or w (length w - 2) 0) 0 c.before.if3.false)
-
-pub tidy-text-spec : {M : Type 1} → statement M
-tidy-text-spec =
+tidy_text_spec =
     tie.close
     (tie.spec
     returns
     (λ c. search rules)
-    returns-2
+    (λ c. let w = c.args.w.now in rw (lt-leb (length w) 1 c.if-w-le1.false, eq-eqb (get_or w 0 0) 1 (omega arith)))
     (λ c. search rules)
     (λ c. search rules)
-    returns-3
+    (λ c. let w = c.args.w.now in rw (lt-leb (length w) 1 c.if-w-le1.false, ne_eqb (get_or w 0 0) 1 (λ e. omega (arith, e)), ne_eqb (get_or w (length w - 2) 0) 0 c.if-w-ne0.true))
     (λ c. search rules)
     (λ c. search rules)
-    returns-4)
+    (λ c. let w = c.args.w.now in rw (lt-leb (length w) 1 c.if-w-le1.false, ne_eqb (get_or w 0 0) 1 (λ e. omega (arith, e)), eq-eqb (get_or w (length w - 2) 0) 0 c.if-w-ne0.false)))

@@ -8,31 +8,31 @@ use borrow.Author.Rules.{rules}
 use Rattle.settings.proofs.entry.typed_at.Statement.{statement}
 use Rattle.settings.proofs.entry.typed_at.Tie as tie
 
-sub-t18 : tie.Need-overflow-sub-t18
+sub-t18 : tie.Need-overflow_sub-result
 sub-t18 c =
-    let b = c.before.before.before in
-    let a = b.before.before.before.before in
-    value_ahead a.code.given.0.0 a.before.before.before.before.args.s.now a.code.given.0.1.0.at (heard says_value b.next.given.1 b.before.before.value.ensures)
+    let b = c in
+    let a = b in
+    value_ahead a.in-Got.code a.args.s.now a.in-Got.a.at (heard says_value b.in-Got-value.is b.value.ensures)
 
-returns : tie.Need-returns
+returns : tie.Need-returns-in-Got-value
 unfolding typed_at
 returns c =
-    let b = c.before.before.before in
-    let a = b.before.before.before.before in
-    follow _ (heard says_u16 a.code.given.1 a.before.before.u16.ensures) (follow _ (heard says_value b.next.given.1 b.before.before.value.ensures) refl)
+    let b = c in
+    let a = b in
+    follow _ (heard says_u16 a.in-Got.is a.u16.ensures) (follow _ (heard says_value b.in-Got-value.is b.value.ensures) refl)
 
-returns-2 : tie.Need-returns-2
+returns-2 : tie.Need-returns-in-Refused-value
 unfolding typed_at
 returns-2 c =
-    let a = c.before.before.before.before.before in
-    follow _ (heard says_u16 a.code.given.1 a.before.before.u16.ensures) (stop _ (heard says_value c.before.f.given.1 c.before.before.before.value.ensures))
+    let a = c in
+    follow _ (heard says_u16 a.in-Got.is a.u16.ensures) (stop _ (heard says_value c.in-Refused-value.is c.value.ensures))
 
-returns-3 : tie.Need-returns-3
+returns-3 : tie.Need-returns-in-Refused
 unfolding typed_at
-returns-3 c = stop _ (heard says_u16 c.before.f2.given.1 c.before.before.before.u16.ensures)
+returns-3 c = stop _ (heard says_u16 c.in-Refused.is c.u16.ensures)
 
-pub typed-at-spec : {M : Type 1} → statement M
-typed-at-spec =
+pub typed_at_spec : {M : Type 1} → statement M
+typed_at_spec =
     tie.close
     (tie.spec
     (λ c κs. search rules)

@@ -11,9 +11,9 @@ use Rattle.settings.proofs.entry.value_tidy.Tie as tie
 returns : tie.Need-returns
 unfolding value_tidy
 returns c =
-    let a = c.before.before.before.before.args in
+    let a = c.args in
     let size : a.x.value.start + a.x.value.len - a.x.value.start ≡ a.x.value.len = omega arith in
-    c.word-tidy.ensures ∙ ap (λ k. word_tidy a.x.code (take k (drop a.x.value.start a.s.now))) size
+    c.word_tidy.ensures ∙ ap (λ k. word_tidy a.x.code (take k (drop a.x.value.start a.s.now))) size
 
-pub value-tidy-spec : {M : Type 1} → statement M
-value-tidy-spec = tie.close (tie.spec (λ c. search rules) (λ c. search rules) (λ c. search rules) (λ c. search rules) (λ c κs. search rules) returns)
+pub value_tidy_spec : {M : Type 1} → statement M
+value_tidy_spec = tie.close (tie.spec (λ c. search rules) (λ c. search rules) (λ c. search rules) (λ c. search rules) (λ c κs. search rules) returns)

@@ -4,5 +4,5 @@ use borrow.Author.Tests.{eq-eqb, ne_eqb}
 use Rattle.settings.proofs.entry.word_tidy.Statement.{statement}
 use Rattle.settings.proofs.entry.word_tidy.Tie as tie
 
-pub word-tidy-spec : {M : Type 1} → statement M
-word-tidy-spec = tie.close (tie.spec (λ c. simp (ne_eqb _ _ c.if1.true)) (λ c κs. search rules) (λ c. rw (eq-eqb _ _ c.before.if1.false) c.tidy-text.ensures))
+pub word_tidy_spec : {M : Type 1} → statement M
+word_tidy_spec = tie.close (tie.spec (λ c. simp (ne_eqb _ _ c.if-code-ne-STRING.true)) (λ c κs. search rules) (λ c. rw (eq-eqb _ _ c.if-code-ne-STRING.false) c.tidy_text.ensures))

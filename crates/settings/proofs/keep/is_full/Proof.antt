@@ -3,11 +3,11 @@ use borrow.Author.Tests.{lt-ltb, le-ltb}
 use Rattle.settings.proofs.keep.is_full.Statement.{statement}
 use Rattle.settings.proofs.keep.is_full.Tie as tie
 
-returns : tie.Need-returns
-returns c = rw (lt-ltb c.before.args.place c.before.args.end c.if1.true)
+returns : tie.Need-returns-then-place-end
+returns c = rw (lt-ltb c.args.place c.args.end c.if-place-end.true)
 
-returns-2 : tie.Need-returns-2
-returns-2 c = rw (le-ltb c.before.args.place c.before.args.end c.if1.false)
+returns-2 : tie.Need-returns
+returns-2 c = rw (le-ltb c.args.place c.args.end c.if-place-end.false)
 
-pub is-full-spec : {M : Type 1} → statement M
-is-full-spec = tie.close (tie.spec returns returns-2)
+pub is_full_spec : {M : Type 1} → statement M
+is_full_spec = tie.close (tie.spec returns returns-2)

@@ -5,11 +5,11 @@ use borrow.Author.Rules.{rules}
 use Rattle.settings.proofs.keep.remove.Statement.{statement}
 use Rattle.settings.proofs.keep.remove.Tie as tie
 
-take-out-requires : tie.Need-take-out-requires
-take-out-requires c κs = (_, sym c.before.before.before.check-row.ensures ∙ c.before.enum_told.given.1)
+take-out-requires : tie.Need-take_out-requires
+take-out-requires c κs = (_, sym c.check_row.ensures ∙ c.in-Whole.is)
 
-pub remove-spec : {M : Type 1} → statement M
-remove-spec =
+pub remove_spec : {M : Type 1} → statement M
+remove_spec =
     tie.close
     (tie.spec
     (λ c κs. search rules)
@@ -18,4 +18,4 @@ remove-spec =
     (λ c. search rules)
     (λ c. search rules)
     (λ c. search rules)
-    (λ c. removed_refused _ _ _ (sym c.before.before.before.check-row.ensures ∙ c.before.f.given.1)))
+    (λ c. removed_refused _ _ _ (sym c.check_row.ensures ∙ c.in-Refused.is)))

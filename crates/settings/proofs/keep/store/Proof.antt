@@ -7,23 +7,23 @@ use borrow.Author.Rules.{rules}
 use Rattle.settings.proofs.keep.store.Statement.{statement}
 use Rattle.settings.proofs.keep.store.Tie as tie
 
-put-in-requires : tie.Need-put-in-requires
+put-in-requires : tie.Need-put_in-requires
 put-in-requires c κs =
-    let x = c.before.before in
-    let n = x.before.before.before.before in
-    (sym n.before.before.check-row.ensures ∙ n.count.given.1, (_, sym (heard says_entry x.x.given.1 x.before.before.alone.ensures)))
+    let x = c in
+    let n = x in
+    (sym n.check_row.ensures ∙ n.in-Whole.is, (_, sym (heard says_entry x.in-Got.is x.alone.ensures)))
 
-returns-2 : tie.Need-returns-2
+returns-2 : tie.Need-returns-in-Refused-alone
 returns-2 c =
-    let n = c.before.before.before.before.before in
-    let a = n.before.before.before.before.before.before.args in
-    stored_entry_refused a.edition a.row.now a.entry.now _ (sym n.before.before.check-row.ensures ∙ n.count.given.1)
-    (heard says_entry c.before.f.given.1 c.before.before.before.alone.ensures)
+    let n = c in
+    let a = n.args in
+    stored_entry_refused a.edition a.row.now a.entry.now _ (sym n.check_row.ensures ∙ n.in-Whole.is)
+    (heard says_entry c.in-Refused-alone.is c.alone.ensures)
 
-returns-3 : tie.Need-returns-3
+returns-3 : tie.Need-returns-in-Refused
 returns-3 c =
-    let a = c.before.before.before.before.before.before.before.args in
-    stored_row_refused a.edition a.row.now a.entry.now (sym c.before.before.before.check-row.ensures ∙ c.before.f2.given.1)
+    let a = c.args in
+    stored_row_refused a.edition a.row.now a.entry.now (sym c.check_row.ensures ∙ c.in-Refused.is)
 
 pub store_spec : {M : Type 1} → statement M
 store_spec =

@@ -9,11 +9,11 @@ use Rattle.settings.proofs.row.any_place.Tie as tie
 
 returns : tie.Need-returns
 returns c =
-    let a = c.before.before.before.before.before.before.args in
-    c.seek.ensures (any_key a.vendor a.property) (any_spells a.vendor a.property (omega arith) (omega arith) refl c.before.before.before.put_front.ensures)
+    let a = c.args in
+    c.seek.ensures (any_key a.vendor a.property) (any_spells a.vendor a.property (omega arith) (omega arith) refl c.put_front.ensures)
 
-pub any-place-spec : {M : Type 1} → statement M
-any-place-spec =
+pub any_place_spec : {M : Type 1} → statement M
+any_place_spec =
     tie.close
     (tie.spec
     (λ c. search rules)

@@ -4,23 +4,23 @@ use borrow.Author.Rules.{rules}
 use Rattle.settings.proofs.row.best_place.Statement.{statement}
 use Rattle.settings.proofs.row.best_place.Tie as tie
 
-returns : tie.Need-returns
+returns : tie.Need-returns-then-own-row
 returns c =
-    let a = c.before.before.before.before.before.before.args in
-    best_own a.vendor a.property a.serial.now a.row.now c.before.before.enum-told2.given.1 c.before.own-place.ensures c.if1.true
+    let a = c.args in
+    best_own a.vendor a.property a.serial.now a.row.now c.in-Two.is c.own_place-own.ensures c.if-own-row.true
 
-returns-2 : tie.Need-returns-2
+returns-2 : tie.Need-returns-in-One
 returns-2 c =
-    let a = c.before.before.before.before.before.args in
-    best_one a.vendor a.property a.serial.now a.row.now c.before.enum_told.given.1 c.any_place.ensures
+    let a = c.args in
+    best_one a.vendor a.property a.serial.now a.row.now c.in-One.is c.any_place.ensures
 
-returns-3 : tie.Need-returns-3
+returns-3 : tie.Need-returns-else-own-row
 returns-3 c =
-    let a = c.before.before.before.before.before.before.before.args in
-    best_any a.vendor a.property a.serial.now a.row.now c.before.before.before.enum-told2.given.1 c.before.before.own-place.ensures c.before.if1.false c.any-place2.ensures
+    let a = c.args in
+    best_any a.vendor a.property a.serial.now a.row.now c.in-Two.is c.own_place-own.ensures c.if-own-row.false c.any_place-in-Two.ensures
 
-pub best-place-spec : {M : Type 1} → statement M
-best-place-spec =
+pub best_place_spec : {M : Type 1} → statement M
+best_place_spec =
     tie.close
     (tie.spec
     (λ c. search rules)

@@ -9,22 +9,22 @@ use borrow.Author.Rules.{rules}
 use Rattle.settings.proofs.row.held_at.Statement.{statement}
 use Rattle.settings.proofs.row.held_at.Tie as tie
 
-returns : tie.Need-returns
+returns : tie.Need-returns-then-row-at
 unfolding held_at
-returns c = rw (le-ltb c.before.before.args.at (length c.before.before.args.row.now) c.if1.true)
+returns c = rw (le-ltb c.args.at (length c.args.row.now) c.if-row-at.true)
 
-returns-2 : tie.Need-returns-2
+returns-2 : tie.Need-returns-in-Got
 unfolding held_at
 returns-2 c =
-    let a = c.before.before.before.before.before.before.args in
-    rw (lt-ltb a.at (length a.row.now) c.before.before.before.before.if1.false) (ap held_from (heard says_entry c.before.x.given.1 c.before.before.before.entry_at.ensures))
+    let a = c.args in
+    rw (lt-ltb a.at (length a.row.now) c.if-row-at.false) (ap held_from (heard says_entry c.in-Got.is c.entry_at.ensures))
 
-returns-3 : tie.Need-returns-3
+returns-3 : tie.Need-returns-in-Refused
 unfolding held_at
 returns-3 c =
-    let a = c.before.before.before.before.before.args in
-    rw (lt-ltb a.at (length a.row.now) c.before.before.before.if1.false) (ap held_from (heard says_entry c.enum_told.given.1 c.before.before.entry_at.ensures))
+    let a = c.args in
+    rw (lt-ltb a.at (length a.row.now) c.if-row-at.false) (ap held_from (heard says_entry c.in-Refused.is c.entry_at.ensures))
 
-pub held-at-spec : {M : Type 1} → statement M
-held-at-spec =
+pub held_at_spec : {M : Type 1} → statement M
+held_at_spec =
     tie.close (tie.spec returns (λ c κs. search rules) (λ c. search rules) (λ c. search rules) returns-2 returns-3)

@@ -8,27 +8,27 @@ use borrow.Author.Rules.{rules}
 use Rattle.settings.proofs.row.own_place.Statement.{statement}
 use Rattle.settings.proofs.row.own_place.Tie as tie
 
-array-share-prefix-key : tie.Need-array-share-prefix-key
-array-share-prefix-key c = (spells_done c.before.n.given.1 c.before.before.before.before.put-own.ensures).0
+array-share-prefix-key : tie.Need-slice_bounds-key-end
+array-share-prefix-key c = (spells_done c.in-Done.is c.put_own.ensures).0
 
-slice-aggregate-seek : tie.Need-slice-aggregate-seek
-slice-aggregate-seek c = sym (length-take-le _ _ (spells_done c.before.before.n.given.1 c.before.before.before.before.before.put-own.ensures).0)
+slice-aggregate-seek : tie.Need-slice_bounds-seek-end
+slice-aggregate-seek c = sym (length-take-le _ _ (spells_done c.in-Done.is c.put_own.ensures).0)
 
-returns : tie.Need-returns
+returns : tie.Need-returns-in-Done
 returns c =
-    let p = c.before.before.before.before.before.before in
-    let a = p.before.before.before.before.args in
-    c.seek.ensures (own_key a.vendor a.property a.serial.now) (spells_done c.before.before.before.n.given.1 p.put-own.ensures).1
+    let p = c in
+    let a = p.args in
+    c.seek.ensures (own_key a.vendor a.property a.serial.now) (spells_done c.in-Done.is p.put_own.ensures).1
 
-returns-2 : tie.Need-returns-2
+returns-2 : tie.Need-returns-in-Refused
 returns-2 c =
-    let p = c.before.before.before in
-    let a = p.before.before.before.before.args in
-    let h = bytes_of a.row.now (λ i. (p.before.before.before.shared-slice-known.given i).fits) in
-    none_places a.row.now h (own_key a.vendor a.property a.serial.now) (spells_none c.enum_told.given.1 p.put-own.ensures)
+    let p = c in
+    let a = p.args in
+    let h = bytes_of a.row.now (λ i. (p.shared_slice_known-1.given i).fits) in
+    none_places a.row.now h (own_key a.vendor a.property a.serial.now) (spells_none c.in-Refused.is p.put_own.ensures)
 
-pub own-place-spec : {M : Type 1} → statement M
-own-place-spec =
+pub own_place_spec : {M : Type 1} → statement M
+own_place_spec =
     tie.close
     (tie.spec
     (λ c. search rules)

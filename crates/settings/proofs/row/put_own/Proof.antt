@@ -10,27 +10,27 @@ use borrow.Author.Rules.{rules}
 use Rattle.settings.proofs.row.put_own.Statement.{statement}
 use Rattle.settings.proofs.row.put_own.Tie as tie
 
-returns : tie.Need-returns
+returns : tie.Need-returns-in-Done
 returns c =
-    let s = c.before.before.before.before.before in
-    let k = s.before.before.before.before.before.before.before.before in
+    let s = c in
+    let k = s in
     let a = k.args in
-    own_spells a.vendor a.property (omega arith) (omega arith) a.serial.now (λ i. (s.before.before.before.before.before.before.before.shared-slice-known.given i).fits) (take 8 a.out.now) _
-    (length-take-le 8 a.out.now (omega (arith, k.requires))) s.n.given.1 s.before.before.before.before.write-text.ensures c.before.before.put_front.ensures
+    own_spells a.vendor a.property (omega arith) (omega arith) a.serial.now (λ i. (s.shared_slice_known-1.given i).fits) (take 8 a.out.now) _
+    (length-take-le 8 a.out.now (omega (arith, k.requires))) s.in-Done.is s.write_text.ensures c.put_front-a.ensures
 
-add-t16 : tie.Need-overflow-add-t16
+add-t16 : tie.Need-overflow_add-result
 add-t16 c = omega (arith, (spells_done refl (returns c)).0)
 
-returns-2 : tie.Need-returns-2
+returns-2 : tie.Need-returns-in-Refused
 returns-2 c =
-    let s = c.before.before.before.before.before in
-    let k = s.before.before.before.before in
+    let s = c in
+    let k = s in
     let a = k.args in
     let size = length-take (length a.out.now - 8) (drop 8 a.out.now) in
-    no_word (own_none a.vendor a.property a.serial.now c.before.f.given.1 s.write-text.ensures (omega (arith, k.requires, size, length-drop 8 a.out.now)))
+    no_word (own_none a.vendor a.property a.serial.now c.in-Refused.is s.write_text.ensures (omega (arith, k.requires, size, length-drop 8 a.out.now)))
 
-pub put-own-spec : {M : Type 1} → statement M
-put-own-spec =
+pub put_own_spec : {M : Type 1} → statement M
+put_own_spec =
     tie.close
     (tie.spec
     (λ c. search rules)

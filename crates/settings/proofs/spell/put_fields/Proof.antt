@@ -5,14 +5,14 @@ use borrow.Author.Rules.{rules}
 use Rattle.settings.proofs.spell.put_fields.Statement.{statement}
 use Rattle.settings.proofs.spell.put_fields.Tie as tie
 
-put-front-requires : tie.Need-put-front-requires
-put-front-requires c κs = let k = c.before.before.before.before.before.before.before.before in front_room _ (omega (arith, k.requires.0)) c.before.before.before.store.ensures
+put-front-requires : tie.Need-put_front_at-b-requires
+put-front-requires c κs = let k = c in front_room _ (omega (arith, k.requires.0)) c.store-a.ensures
 
 returns : tie.Need-returns
 returns c =
-    let k = c.before.before.before.before.before.before.before.before.before.before.before.before.before.before.before.before.before.before.before.before.before.before.before in
+    let k = c in
     let a = k.args in
-    fields_put a.kind a.vendor a.property a.code a.serial.now a.value.now k.requires.0 c.before.before.before.before.before.before.before.before.before.before.before.before.before.before.before.before.before.before.store.ensures c.before.before.before.before.before.before.before.before.before.before.before.before.before.before.put_front.ensures c.before.before.before.before.before.before.before.before.before.before.copy.ensures c.before.before.before.before.before.before.store2.ensures c.before.before.copy2.ensures
+    fields_put a.kind a.vendor a.property a.code a.serial.now a.value.now k.requires.0 c.store-a.ensures c.put_front_at-b.ensures c.copy-c.ensures c.store-d.ensures c.copy.ensures
 
-pub put-fields-spec : {M : Type 1} → statement M
-put-fields-spec = tie.close (tie.spec (λ c. search rules) (λ c. search rules) (λ c κs. search rules) put-front-requires (λ c κs. search rules) (λ c κs. search rules) (λ c κs. search rules) (λ c. search rules) returns)
+pub put_fields_spec : {M : Type 1} → statement M
+put_fields_spec = tie.close (tie.spec (λ c. search rules) (λ c. search rules) (λ c κs. search rules) put-front-requires (λ c κs. search rules) (λ c κs. search rules) (λ c κs. search rules) (λ c. search rules) returns)

@@ -7,13 +7,13 @@ use borrow.Author.Rules.{rules}
 use Rattle.settings.proofs.spell.put_serial.Statement.{statement}
 use Rattle.settings.proofs.spell.put_serial.Tie as tie
 
-returns : tie.Need-returns
+returns : tie.Need-returns-then-own
 unfolding serial_said
-returns c = rw c.before.before.before.before.if1.true c.before.before.write-text.ensures
+returns c = rw c.if-own.true c.write_text.ensures
 
-returns-2 : tie.Need-returns-2
+returns-2 : tie.Need-returns
 unfolding serial_said
-returns-2 c = rw c.if1.false (done refl (omega arith) nothing)
+returns-2 c = rw c.if-own.false (done refl (omega arith) nothing)
 
-pub put-serial-spec : {M : Type 1} → statement M
-put-serial-spec = tie.close (tie.spec (λ c κs. search rules) (λ c. search rules) returns returns-2)
+pub put_serial_spec : {M : Type 1} → statement M
+put_serial_spec = tie.close (tie.spec (λ c κs. search rules) (λ c. search rules) returns returns-2)

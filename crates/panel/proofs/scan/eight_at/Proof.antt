@@ -1,0 +1,11 @@
+-- `panel::scan::eight_at`: the one half and the other. Assumes nothing.
+use Rattle.std.proofs.Common.{arith, rules}
+use Rattle.panel.proofs.Scanning.{eight_word}
+use Rattle.panel.proofs.scan.eight_at.Statement.{statement}
+use Rattle.panel.proofs.scan.eight_at.Tie as tie
+
+returns : tie.Need-returns
+returns c = let a = c.args in omega (arith, eight_word a.s.now a.at c.requires, c.four_at-2.ensures.0, c.four_at.ensures.0)
+
+pub eight_at_spec : {M : Type 1} → statement M
+eight_at_spec = tie.close (tie.spec (λ c κs. search rules) (λ c. search rules) (λ c κs. search rules) (λ c. search rules) (λ c. search rules) returns)

@@ -1,0 +1,36 @@
+-- `panel::scan::laid_out`: one test after the other; where the place is past the end, only no values are there. Assumes nothing.
+use Rattle.std.proofs.Common.{◌≡◌, ℕ, zero, suc, ◌-◌, ◌*◌, eqb, leb, sym, refl, ◌∙◌, arith, eq-eqb, ne_eqb}
+use borrow.Author.Tests.{lt-leb}
+use Rattle.panel.specs.Words.{laid_out}
+use Rattle.panel.proofs.Scanning.{times_small}
+use Rattle.panel.proofs.scan.laid_out.Statement.{statement}
+use Rattle.panel.proofs.scan.laid_out.Tie as tie
+
+at-most-none : (n : ℕ) → eqb n 0 ≡ leb n 0
+at-most-none zero = refl
+at-most-none (suc n) = ne_eqb (suc n) 0 (λ e. omega arith) ∙ sym (lt-leb (suc n) 0 (omega arith))
+
+returns : tie.Need-returns-then-w-eq0
+unfolding laid_out
+returns c = rw (eq-eqb _ _ c.if-w-eq0.true)
+
+returns-2 : tie.Need-returns-then-own-w
+unfolding laid_out
+returns-2 c = rw (ne_eqb _ _ c.if-w-eq0.false, ne_eqb _ _ c.if-own-w.true)
+
+mul-need : tie.Need-overflow_mul-need
+mul-need c = record { fits = times_small c.args.n c.args.w (omega arith) c.requires }
+
+returns-3 : tie.Need-returns-then-size-first
+unfolding laid_out
+returns-3 c =
+    let a = c.args in
+    let none : a.size - a.first ≡ 0 = omega (arith, c.if-size-first.true) in
+    rw (ne_eqb _ _ c.if-w-eq0.false, eq-eqb _ _ c.if-own-w.false, none) (at-most-none (a.n * a.w))
+
+returns-4 : tie.Need-returns
+unfolding laid_out
+returns-4 c = rw (ne_eqb _ _ c.if-w-eq0.false, eq-eqb _ _ c.if-own-w.false)
+
+pub laid_out_spec : {M : Type 1} → statement M
+laid_out_spec = tie.close (tie.spec returns returns-2 mul-need returns-3 returns-4)
