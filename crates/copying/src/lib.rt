@@ -1,5 +1,7 @@
 // The turns of a program that copies a recording as it comes, without its notes: what to write, and then whether to go on, to read or to stop.
 // The program does what it is told and reckons nothing: specs/Turn.antt says what a turn is; what a row of turns gives stands in `turns`.
+#![tactic(auto)]
+
 ghost use Rattle.std.specs.Prelude.{◌≡◌, nat_lt};
 ghost use Rattle.layout.specs.Answer.{pick};
 ghost use Rattle.layout.specs.Answer.{pick};
@@ -15,7 +17,7 @@ use recording::{Copied, Front, Left, ReadFront};
 use turns::{Hold, Next};
 
 // How far the copy has come: the place of the next record, and what was left out before it, records and their bytes.
-#[derive(Drop)]
+#[derive(Clone, Copy)]
 pub struct Tally {
     pub place: u64,
     pub records: u64,

@@ -1,27 +1,19 @@
 -- Bytes that are copied to a place. Where they go by their first n and their last n, the second part writes what the first wrote.
 -- Assumes nothing.
-use Rattle.std.proofs.Common.{◌≡◌, ℕ, suc, ◌+◌, ◌-◌, ◌<◌, ◌≤◌, List, [], ◌∷◌, ◌++◌, length, take, drop, set, sym, refl, ap, ◌∙◌, append_assoc, append-nil, le_of_suc-le-suc, not-suc-le-zero, arith, length-drop, take-append-drop, length-take-le, drop-drop, take-add, set-set}
-use lib.Seq.{sets, sets-eq, set_comm, take-length, drop-length}
+use Rattle.std.proofs.Common.{◌≡◌, ℕ, suc, ◌+◌, ◌-◌, ◌<◌, ◌≤◌, List, [], ◌∷◌, ◌++◌, length, take, drop, set, sym, refl, ap, ◌∙◌, append_assoc, le_of_suc-le-suc, not-suc-le-zero, arith, length-drop, take-append-drop, length-take-le, drop-drop, take-add, set-set}
+use lib.Seq.{sets, sets-eq, set_comm}
 use Rattle.layout.specs.Written.{put, Put}
-use Rattle.layout.proofs.laws.Words.{part_from}
 use Rattle.layout.proofs.laws.Writing.{then}
 
-nothing_behind : (l : List ℕ) (r : ℕ) → r ≤ length l → drop (length l - r) (drop r l) ≡ []
-nothing_behind l r h = ap (λ n. drop n (drop r l)) (sym (length-drop r l)) ∙ drop-length (drop r l)
-
--- a copy to the front of what is behind a place
-pub copied :
-    (out t : List ℕ) (at : ℕ) {ys : List ℕ} {n : ℕ} → at + length t ≤ length out → n ≡ length t → ys ≡ take (length t) t ++ drop (length t) (take (length out - at) (drop at out)) →
-    Put out at t (take at out ++ (ys ++ drop (length out - at) (drop at out))) (at + n)
+-- a text over the part of its length from a place on
+pub copied : (out t : List ℕ) (at : ℕ) {ys : List ℕ} → at + length t ≤ length out → ys ≡ t → Put out at t (take at out ++ (ys ++ drop (at + length t - at) (drop at out))) (at + length t)
 unfolding put
-copied out t at {ys} {n} h e f = record {
-  bytes =
-      ap (λ z. take at out ++ z)
-      (rw (f, nothing_behind out at (omega arith), append-nil, take-length t, part_from out at, drop-drop (length t) at out))
-      ∙ sym (append_assoc (take at out) t (drop (at + length t) out))
-      ∙ sym (sets-eq t out at h);
-  place = omega arith;
-}
+copied out t at {ys} h f =
+    let k : at + length t - at ≡ length t = omega arith in
+    record {
+      bytes = ap (λ z. take at out ++ z) (rw (f, k, drop-drop (length t) at out)) ∙ sym (append_assoc (take at out) t (drop (at + length t) out)) ∙ sym (sets-eq t out at h);
+      place = refl;
+    }
 
 -- a byte before a row may be stored first
 set_sets : (l : List ℕ) (i j b : ℕ) (u : List ℕ) → i < j → set (sets l j u) i b ≡ sets (set l i b) j u

@@ -1,6 +1,6 @@
 -- The listing with a note's word as an argument: ` note ` in document 01, ` old-note ` since request 10. All else is the same lines over a row of records.
 -- Assumes nothing.
-use Rattle.std.specs.Prelude.{◌≡◌, ℕ, suc, ◌+◌, List, [], ◌∷◌, ◌++◌, ◌≢◌}
+use Rattle.std.specs.Prelude.{ℕ, suc, ◌+◌, List, [], ◌∷◌, ◌++◌, ◌≢◌}
 use Rattle.layout.specs.Answer.{Answer, got, refused}
 use Rattle.names.specs.Names.{spelled}
 use Rattle.recording.specs.Content.{Content, Record}

@@ -1,4 +1,6 @@
 // The listing of a recording, window by window. What is printed stands in specs/.
+#![tactic(auto)]
+
 ghost use Rattle.std.specs.Prelude.{◌≡◌, length};
 ghost use Rattle.layout.specs.Written.{Wrote, says, says_written};
 ghost use Rattle.names.specs.Names.{name_bytes};

@@ -16,7 +16,9 @@ fn put_bytes(text: &[u8], out: &mut [u8], at: usize) -> usize
     requires { at + length text.now ≤ length out.old }
     ensures { Put out.old at text.now out.new result }
 {
-    at + bytes::copy(text, &mut out[at..])
+    let end = at + text.len();
+    out[at..end].copy_from_slice(text);
+    end
 }
 
 // The same of n bytes to twice as many, by the first n and the last n: where n is a constant each is one move, and no library is called.

@@ -1,7 +1,7 @@
 -- The loop of a sweep: what is still to be written of the three outputs, and how the last stretch is told.
 -- Assumes nothing.
 use Rattle.std.proofs.Common.{◌≡◌, ℕ, ◌+◌, ◌-◌, ◌<◌, ◌≤◌, Bool, true, false, leb, List, [], length, take, drop, sym, refl, ap, ◌∙◌, subst, append-nil, add-zero, zero-add, arith, length-drop, length-take-le, leb-false, leb-true}
-use mathlib.Core.List.{map_append}
+use mathlib.Core.List.{map-append}
 use lib.ListN.{length-map}
 use Rattle.layout.specs.Answer.{pick}
 use Rattle.layout.specs.Written.{Put, roomed}
@@ -125,8 +125,8 @@ module _ {w rest : Windowed} {out₀ out starts₀ starts lengths₀ lengths : L
       let count : length (starts_of ps) ≡ length ps = length-map ps (λ x. x.start) in
       record {
         bytes = part (ap (λ (x : Windowed). x.text) e) g.bytes p;
-        starts_so = part (ap starts_of tells ∙ map_append (λ x. x.start) ps next.told) g.starts_so q;
-        lengths_so = part (ap lengths_of tells ∙ map_append (λ x. x.count) ps next.told) g.lengths_so r;
+        starts_so = part (ap starts_of tells ∙ map-append (λ x. x.start) ps next.told) g.starts_so q;
+        lengths_so = part (ap lengths_of tells ∙ map-append (λ x. x.count) ps next.told) g.lengths_so r;
         uses = omega (arith, g.uses);
         tallies = sym (ap (λ (x : Windowed). x.tally) e) ∙ g.tallies;
         fits = omega (arith, p.place, long p);
@@ -139,8 +139,8 @@ module _ {w rest : Windowed} {out₀ out starts₀ starts lengths₀ lengths : L
       Finishes rest used written told starts lengths r starts' lengths' → Sweeps w out₀ starts₀ lengths₀ r out starts' lengths'
   goes_out {r} {starts'} {lengths'} none used-none one two f =
       let text = end none g.bytes in
-      let ss = end refl (part (ap starts_of (sym (append-nil rest.told)) ∙ map_append (λ x. x.start) rest.told []) g.starts_so f.starts_so) in
-      let ls = end refl (part (ap lengths_of (sym (append-nil rest.told)) ∙ map_append (λ x. x.count) rest.told []) g.lengths_so f.lengths_so) in
+      let ss = end refl (part (ap starts_of (sym (append-nil rest.told)) ∙ map-append (λ x. x.start) rest.told []) g.starts_so f.starts_so) in
+      let ls = end refl (part (ap lengths_of (sym (append-nil rest.told)) ∙ map-append (λ x. x.count) rest.told []) g.lengths_so f.lengths_so) in
       let wrote : written ≡ length w.text = text.place ∙ zero-add (length w.text) in
       let count : told + length rest.told ≡ length w.told = ss.place ∙ zero-add (length (starts_of w.told)) ∙ length-map w.told (λ x. x.start) in
       let size : length (starts_of w.told) ≡ length w.told = length-map w.told (λ x. x.start) in

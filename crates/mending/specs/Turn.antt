@@ -16,10 +16,9 @@ use Rattle.mending.specs.Mended.{starts_of, lengths_of}
 use Rattle.mending.specs.Report.{stretch_lines, counts_line}
 use Rattle.mending.specs.Window.{fresh, Windowed, window_of}
 
--- how many bytes the window has, and the output: twice as many as the longest record and more, so that a header in damage that claims one does not wait at every
--- place. And how many stretches a turn tells
+-- how many bytes the window has, the output and the report; and how many stretches a turn tells
 abbrev pub size : ℕ
-size = 131072
+size = 65536
 
 abbrev pub slots : ℕ
 slots = 1024

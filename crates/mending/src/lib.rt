@@ -1,5 +1,7 @@
 // A damaged recording, mended: every record that can still be read is kept as it stands, and what was dropped is told by place and length.
 // What is right stands in specs/.
+#![tactic(auto)]
+
 ghost use Rattle.std.specs.Prelude.{◌≡◌, ◌-◌, length};
 ghost use Rattle.mending.specs.Mended.{mend_said, stretch, dropped_of, Mends, says_mended};
 

@@ -119,8 +119,8 @@ fn put_last(stretches: u64, t: Tally, report: &mut [u8]) -> usize
 // One turn. Its bytes stand at the front of the output, its stretches at the fronts of the two lists, and its lines at the front of the report.
 pub fn take_turn(
     s: Stand,
-    window: &mut [u8; 131072],
-    out: &mut [u8; 131072],
+    window: &mut [u8; 65536],
+    out: &mut [u8; 65536],
     starts: &mut [u64; 1024],
     lengths: &mut [u64; 1024],
     report: &mut [u8; 65536],

@@ -15,7 +15,7 @@ use crate::search;
 
 // How far mending has come: the place of the next byte, the records kept before it and their bytes, and how many bytes right before it are
 // dropped and not told yet.
-#[derive(Drop)]
+#[derive(Clone, Copy)]
 pub struct Tally {
     pub place: u64,
     pub records: u64,

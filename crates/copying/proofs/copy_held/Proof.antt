@@ -4,7 +4,7 @@ use Rattle.copying.proofs.copy_held.Statement.{statement}
 use Rattle.copying.proofs.copy_held.Tie as tie
 
 returns : tie.Need-returns
-returns c = rw (← c.before.before.before.before.rest_of.ensures) c.before.before.copy-front.ensures
+returns c = rw (← c.rest_of.ensures) c.copy_front.ensures
 
-pub copy-held-spec : {M : Type 1} → statement M
-copy-held-spec = tie.close (tie.spec (λ c κs. search rules) (λ c κs. search rules) (λ c. search rules) returns)
+pub copy_held_spec : {M : Type 1} → statement M
+copy_held_spec = tie.close (tie.spec (λ c κs. search rules) (λ c κs. search rules) (λ c. search rules) returns)

@@ -4,10 +4,10 @@ use Rattle.copying.proofs.look_held.Statement.{statement}
 use Rattle.copying.proofs.look_held.Tie as tie
 
 returns : tie.Need-returns
-returns c = rw (← c.before.rest_of.ensures) c.look.ensures
+returns c = rw (← c.rest_of.ensures) c.look.ensures
 
-pub look-held-spec : {M : Type 1} → statement M
-look-held-spec =
+pub look_held_spec : {M : Type 1} → statement M
+look_held_spec =
     tie.close
     (tie.spec
     (λ c κs. search rules)

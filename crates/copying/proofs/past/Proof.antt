@@ -4,7 +4,7 @@ use Rattle.copying.proofs.past.Statement.{statement}
 use Rattle.copying.proofs.past.Tie as tie
 
 returns : tie.Need-returns
-returns c = rw (c.wrapping-add-u643.ensures, c.before.wrapping-add-u642.ensures, c.before.before.wrapping-add-u64.ensures)
+returns c = rw (c.wrapping_add_u64.ensures, c.wrapping_add_u64-bytes.ensures, c.wrapping_add_u64-records.ensures)
 
-pub past-spec : {M : Type 1} → statement M
-past-spec = tie.close (tie.spec (λ c κs. search rules) (λ c κs. search rules) (λ c κs. search rules) returns)
+pub past_spec : {M : Type 1} → statement M
+past_spec = tie.close (tie.spec (λ c κs. search rules) (λ c κs. search rules) (λ c κs. search rules) returns)

@@ -11,53 +11,53 @@ use Rattle.copying.proofs.laws.Turning.{used_fits, turn_goes, turn_asks, turn_st
 use Rattle.copying.proofs.take_turn.Statement.{statement}
 use Rattle.copying.proofs.take_turn.Tie as tie
 
-wide : (c : tie.After-copy-held) → length c.before.before.before.before.before.args.window.now ≡ size
+wide : (c : tie.After-copy_held-front) → length c.args.window.now ≡ size
 wide c = omega arith
 
-room : (c : tie.After-copy-held) → length c.before.before.before.before.before.args.out.now ≡ size
+room : (c : tie.After-copy_held-front) → length c.args.out.now ≡ size
 room c = omega arith
 
 -- what is held has room
-fits : (c : tie.After-copy-held) → length (rest c.before.before.before.before.before.args.window.now c.before.before.before.before.before.args.s.hold.from c.before.before.before.before.before.args.s.hold.held) ≤ length c.before.before.before.before.before.args.out.now
-fits c = let a = c.before.before.before.before.before.args in omega (arith, rest_most a.window.now a.s.hold.from a.s.hold.held, wide c, room c)
+fits : (c : tie.After-copy_held-front) → length (rest c.args.window.now c.args.s.hold.from c.args.s.hold.held) ≤ length c.args.out.now
+fits c = let a = c.args in omega (arith, rest_most a.window.now a.s.hold.from a.s.hold.held, wide c, room c)
 
-returns : tie.Need-returns
-returns c = let e = sym (ap says_copied c.before.enum_told.given.1) ∙ (fronts (fits c.before.before.before) c.before.before.before.copy-held.ensures).answer in zero_one (cc)
+returns : tie.Need-returns-in_default
+returns c = let e = sym (ap says_copied c.in_default.is) ∙ (fronts (fits c.before.before) c.copy_held-front.ensures).answer in zero_one (cc)
 
-add-from : tie.Need-overflow-add-from
+add-from : tie.Need-overflow_add-from
 add-from c =
-    let k = c.before.before.before.before.before in
-    let a = k.before.before.before.before.before.args in
-    omega (arith, used_fits a.window.now a.s.hold a.s.tally (fronts (fits k) k.copy-held.ensures) c.before.before.before.copied.given.1, wide k)
+    let k = c in
+    let a = k.args in
+    omega (arith, used_fits a.window.now a.s.hold a.s.tally (fronts (fits c.before.before.before.before) k.copy_held-front.ensures) c.in-Done.is, wide c.before.before.before.before)
 
-returns-2 : tie.Need-returns-2
+returns-2 : tie.Need-returns-then-used-gt0
 returns-2 c =
-    let k = c.before.before.before.before.before.before.before.before in
-    let a = k.before.before.before.before.before.args in
-    rw (c.answer2.ensures, c.before.standing.ensures, c.before.before.before.before.past.ensures)
-    (turn_goes a.window.now a.s.hold a.s.tally (fronts (fits k) k.copy-held.ensures) c.before.before.before.before.before.before.copied.given.1 c.before.before.if1.true)
+    let k = c in
+    let a = k.args in
+    rw (c.answer-then-used-gt0.ensures, c.standing-on.ensures, c.past-tally.ensures)
+    (turn_goes a.window.now a.s.hold a.s.tally (fronts (fits c.before.before.before.before.before.before.before) k.copy_held-front.ensures) c.in-Done.is c.if-used-gt0.true)
 
-returns-3 : tie.Need-returns-3
+returns-3 : tie.Need-returns-then-seen
 returns-3 c =
-    let k = c.before.before.before.before.before.before.before.before.before.before.before.before.before.before in
-    let a = k.before.before.before.before.before.args in
-    let waiting = sym (ap (λ (o : Outcome). o.waits) c.before.before.before.before.before.look-held.ensures) ∙ c.before.before.before.before.if2.true in
-    rw (c.answer3.ensures, c.before.standing2.ensures, c.before.before.before.before.before.before.before.before.before.before.past.ensures)
-    (turn_asks a.window.now a.s.hold a.s.tally (fronts (fits k) k.copy-held.ensures) c.before.before.before.before.before.before.before.before.before.before.before.before.copied.given.1 c.before.before.before.before.before.before.before.before.if1.false waiting c.before.before.keep.ensures)
+    let k = c in
+    let a = k.args in
+    let waiting = sym (ap (λ (o : Outcome). o.waits) c.look_held-seen.ensures) ∙ c.if-seen.true in
+    rw (c.answer-then-seen.ensures, c.standing.ensures, c.past-tally.ensures)
+    (turn_asks a.window.now a.s.hold a.s.tally (fronts (fits c.before.before.before.before.before.before.before.before.before.before.before.before.before) k.copy_held-front.ensures) c.in-Done.is c.if-used-gt0.false waiting c.keep-kept.ensures)
 
-returns-4 : tie.Need-returns-4
+returns-4 : tie.Need-returns
 returns-4 c =
-    let k = c.before.before.before.before.before.before.before.before.before.before.before.before.before.before in
-    let a = k.before.before.before.before.before.args in
-    let seen = c.before.before.before.before.before.look-held.ensures in
-    let p = c.before.before.put-line.ensures in
+    let k = c in
+    let a = k.args in
+    let seen = c.look_held-seen.ensures in
+    let p = c.put_line-told.ensures in
     let fate-so = ap (λ (o : Outcome). o.fate) seen in
-    let line = rw (fate-so, c.before.before.before.before.before.before.before.before.before.before.past.ensures) at p.0 in
-    rw (c.answer4.ensures, c.before.standing3.ensures, c.before.before.before.before.before.before.before.before.before.before.past.ensures)
-    (turn_stops a.window.now a.s.hold a.s.tally (fronts (fits k) k.copy-held.ensures) c.before.before.before.before.before.before.before.before.before.before.before.before.copied.given.1 c.before.before.before.before.before.before.before.before.if1.false (sym (ap (λ (o : Outcome). o.waits) seen) ∙ c.before.before.before.before.if2.false) line (omega (arith, line.place, p.1)))
+    let line = rw (fate-so, c.past-tally.ensures) at p.0 in
+    rw (c.answer-2.ensures, c.standing-over.ensures, c.past-tally.ensures)
+    (turn_stops a.window.now a.s.hold a.s.tally (fronts (fits c.before.before.before.before.before.before.before.before.before.before.before.before.before) k.copy_held-front.ensures) c.in-Done.is c.if-used-gt0.false (sym (ap (λ (o : Outcome). o.waits) seen) ∙ c.if-seen.false) line (omega (arith, line.place, p.1)))
 
-pub take-turn-spec : {M : Type 1} → statement M
-take-turn-spec =
+pub take_turn_spec : {M : Type 1} → statement M
+take_turn_spec =
     tie.close
     (tie.spec
     (λ c κs. search rules)

@@ -5,16 +5,16 @@ use Rattle.listing.specs.Lines.{heading}
 use Rattle.listing.proofs.write_heading.Statement.{statement}
 use Rattle.listing.proofs.write_heading.Tie as tie
 
-returns : tie.Need-returns
+returns : tie.Need-returns-then-out-lt30
 unfolding heading
-returns c = no_room refl c.before.if1.true c.plain.ensures
+returns c = no_room refl c.if-out-lt30.true c.plain.ensures
 
-returns-2 : tie.Need-returns-2
+returns-2 : tie.Need-returns
 unfolding heading
-returns-2 c = done refl c.before.before.before.before.if1.false c.before.before.put-heading.ensures
+returns-2 c = done refl c.if-out-lt30.false c.put_heading.ensures
 
-pub write-heading-spec : {M : Type 1} → statement M
-write-heading-spec =
+pub write_heading_spec : {M : Type 1} → statement M
+write_heading_spec =
     tie.close
     (tie.spec
     (λ c κs. search rules)

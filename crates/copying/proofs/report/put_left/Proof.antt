@@ -6,19 +6,16 @@ use Rattle.copying.proofs.report.put_left.Tie as tie
 
 returns : tie.Need-returns
 returns c =
-    let k = c.before.before.before.before.before.before.before.before.before.before.before.before.before in
-    left_put k.args.records k.args.bytes k.ranges.records.fits k.ranges.bytes.fits (omega arith) c.before.before.before.before.before.before.before.before.before.before.copy.ensures c.before.before.before.before.before.before.before.before.put-number.ensures c.before.before.before.before.before.copy2.ensures c.before.before.before.put-number2.ensures c.copy3.ensures
+    let k = c in
+    left_put k.args.records k.args.bytes k.ranges.records.fits k.ranges.bytes.fits (omega arith) c.copy-a.ensures c.put_number-b.ensures c.copy-c.ensures c.put_number-d.ensures c.copy.ensures
 
-pub put-left-spec : {M : Type 1} → statement M
-put-left-spec =
+pub put_left_spec : {M : Type 1} → statement M
+put_left_spec =
     tie.close
     (tie.spec
-    (λ c. search rules)
     (λ c κs. search rules)
     (λ c κs. search rules)
-    (λ c. search rules)
     (λ c κs. search rules)
     (λ c κs. search rules)
-    (λ c. search rules)
     (λ c κs. search rules)
     returns)

@@ -4,17 +4,17 @@ use Rattle.layout.proofs.laws.Writing.{nothing}
 use Rattle.copying.proofs.report.put_line.Statement.{statement}
 use Rattle.copying.proofs.report.put_line.Tie as tie
 
-returns : tie.Need-returns
-returns c = rw c.enum_told.given.1 (nothing, omega arith)
+returns : tie.Need-returns-in-Going
+returns c = rw c.in-Going.is (nothing, omega arith)
 
-returns-2 : tie.Need-returns-2
-returns-2 c = rw c.before.before.enum-told2.given.1 c.put-left.ensures
+returns-2 : tie.Need-returns-in-Whole
+returns-2 c = rw c.in-Whole.is c.put_left.ensures
 
-returns-3 : tie.Need-returns-3
-returns-3 c = rw c.before.before.before.fate.given.1 c.Put-refused.ensures
+returns-3 : tie.Need-returns-in-Refused
+returns-3 c = rw c.in-Refused.is c.put_refused.ensures
 
-pub put-line-spec : {M : Type 1} → statement M
-put-line-spec =
+pub put_line_spec : {M : Type 1} → statement M
+put_line_spec =
     tie.close
     (tie.spec
     (λ c. search rules)

@@ -7,14 +7,14 @@ use Rattle.copying.proofs.report.put_refused.Tie as tie
 
 returns : tie.Need-returns
 returns c =
-    let k = c.before.before in
-    let g = k.well-formed in
+    let k = c in
+    let g = k.well_formed in
     let h = refusal_short k.args.place k.args.f k.ranges.place.fits (omega arith) (omega arith) in
-    let p = first (omega (arith, h)) c.put-refusal.ensures in
+    let p = first (omega (arith, h)) c.put_refusal.ensures in
     (p, omega (arith, p.place, h))
 
-pub put-refused-spec : {M : Type 1} → statement M
-put-refused-spec =
+pub put_refused_spec : {M : Type 1} → statement M
+put_refused_spec =
     tie.close
     (tie.spec
     (λ c κs. search rules)

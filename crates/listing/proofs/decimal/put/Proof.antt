@@ -4,17 +4,17 @@ use Rattle.text.proofs.laws.Numerals.{decimal_is, decimal_length, one_digit, two
 use Rattle.listing.proofs.decimal.put.Statement.{statement}
 use Rattle.listing.proofs.decimal.put.Tie as tie
 
-put-one-requires : tie.Need-put-one-requires
-put-one-requires c κs = let n = c.before.before.before.args.n in omega (arith, c.before.before.before.requires, decimal_length n 1 (one_digit n c.before.if1.true))
+put-one-requires : tie.Need-put_one-requires
+put-one-requires c κs = let n = c.args.n in omega (arith, c.requires, decimal_length n 1 (one_digit n c.if-n-lt10.true))
 
-returns : tie.Need-returns
-returns c = let n = c.before.before.before.before.before.before.args.n in rw (← decimal_is n 1 (one_digit n c.before.before.before.before.if1.true)) c.before.before.put_one.ensures
+returns : tie.Need-returns-then-n-lt10
+returns c = let n = c.args.n in rw (← decimal_is n 1 (one_digit n c.if-n-lt10.true)) c.put_one.ensures
 
-put-two-requires : tie.Need-put-two-requires
-put-two-requires c κs = let n = c.before.before.before.before.args.n in omega (arith, c.before.before.before.before.requires, decimal_length n 2 (two_digits n c.before.before.if1.false c.before.if2.true))
+put-two-requires : tie.Need-put_two-requires
+put-two-requires c κs = let n = c.args.n in omega (arith, c.requires, decimal_length n 2 (two_digits n c.if-n-lt10.false c.if-n-lt100.true))
 
-returns-2 : tie.Need-returns-2
-returns-2 c = let n = c.before.before.before.before.before.before.before.args.n in rw (← decimal_is n 2 (two_digits n c.before.before.before.before.before.if1.false c.before.before.before.before.if2.true)) c.before.before.put_two.ensures
+returns-2 : tie.Need-returns-then-n-lt100
+returns-2 c = let n = c.args.n in rw (← decimal_is n 2 (two_digits n c.if-n-lt10.false c.if-n-lt100.true)) c.put_two.ensures
 
 pub put_spec : {M : Type 1} → statement M
 put_spec =

@@ -6,10 +6,10 @@ use Rattle.listing.proofs.decimal.put_eight.Statement.{statement}
 use Rattle.listing.proofs.decimal.put_eight.Tie as tie
 
 returns : tie.Need-returns
-returns c = rw (in_parts 4 4 c.before.before.before.before.before.before.before.before.before.args.n) (then c.before.before.before.before.before.before.put_four.ensures c.before.before.put-four2.ensures)
+returns c = rw (in_parts 4 4 c.args.n) (then c.put_four-a.ensures c.put_four.ensures)
 
-pub put-eight-spec : {M : Type 1} → statement M
-put-eight-spec =
+pub put_eight_spec : {M : Type 1} → statement M
+put_eight_spec =
     tie.close
     (tie.spec
     (λ c κs. search rules)

@@ -7,40 +7,40 @@ use Rattle.listing.proofs.Spelling.{in_parts}
 use Rattle.listing.proofs.decimal.put_few.Statement.{statement}
 use Rattle.listing.proofs.decimal.put_few.Tie as tie
 
-put-one-requires : tie.Need-put-one-requires
-put-one-requires c κs = let n = c.before.before.before.args.n in omega (arith, c.before.before.before.requires.1, decimal_length n 1 (one_digit n c.before.if1.true))
+put-one-requires : tie.Need-put_one-requires
+put-one-requires c κs = let n = c.args.n in omega (arith, c.requires.1, decimal_length n 1 (one_digit n c.if-n-lt10.true))
 
-returns : tie.Need-returns
-returns c = let n = c.before.before.before.before.before.before.args.n in rw (← decimal_is n 1 (one_digit n c.before.before.before.before.if1.true)) c.before.before.put_one.ensures
+returns : tie.Need-returns-then-n-lt10
+returns c = let n = c.args.n in rw (← decimal_is n 1 (one_digit n c.if-n-lt10.true)) c.put_one.ensures
 
-put-two-requires : tie.Need-put-two-requires
-put-two-requires c κs = let n = c.before.before.before.before.args.n in omega (arith, c.before.before.before.before.requires.1, decimal_length n 2 (two_digits n c.before.before.if1.false c.before.if2.true))
+put-two-requires : tie.Need-put_two-requires
+put-two-requires c κs = let n = c.args.n in omega (arith, c.requires.1, decimal_length n 2 (two_digits n c.if-n-lt10.false c.if-n-lt100.true))
 
-returns-2 : tie.Need-returns-2
-returns-2 c = let n = c.before.before.before.before.before.before.before.args.n in rw (← decimal_is n 2 (two_digits n c.before.before.before.before.before.if1.false c.before.before.before.before.if2.true)) c.before.before.put_two.ensures
+returns-2 : tie.Need-returns-then-n-lt100
+returns-2 c = let n = c.args.n in rw (← decimal_is n 2 (two_digits n c.if-n-lt10.false c.if-n-lt100.true)) c.put_two.ensures
 
-put-one-requires-2 : tie.Need-put-one-requires-2
-put-one-requires-2 c κs = let n = c.before.before.before.before.before.args.n in omega (arith, c.before.before.before.before.before.requires.1, decimal_length n 3 (three_digits n c.before.before.if2.false c.before.if3.true))
+put-one-requires-2 : tie.Need-put_one-a-requires
+put-one-requires-2 c κs = let n = c.args.n in omega (arith, c.requires.1, decimal_length n 3 (three_digits n c.if-n-lt100.false c.if-n-lt1000.true))
 
-put-two-requires-2 : tie.Need-put-two-requires-2
+put-two-requires-2 : tie.Need-put_two-requires-then-n-lt1000
 put-two-requires-2 c κs =
-    let n = c.before.before.before.before.before.before.before.before.before.args.n in
-    let l = decimal_length n 3 (three_digits n c.before.before.before.before.before.before.if2.false c.before.before.before.before.before.if3.true) in
-    room_left c.before.before.before.put-one2.ensures 2 (omega (arith, c.before.before.before.before.before.before.before.before.before.requires.1))
+    let n = c.args.n in
+    let l = decimal_length n 3 (three_digits n c.if-n-lt100.false c.if-n-lt1000.true) in
+    room_left c.put_one-a.ensures 2 (omega (arith, c.requires.1))
 
-returns-3 : tie.Need-returns-3
+returns-3 : tie.Need-returns-then-n-lt1000
 returns-3 c =
-    let n = c.before.before.before.before.before.before.before.before.before.before.before.before.args.n in
-    rw (← decimal_is n 3 (three_digits n c.before.before.before.before.before.before.before.before.before.if2.false c.before.before.before.before.before.before.before.before.if3.true), in_parts 1 2 n) (then c.before.before.before.before.before.before.put-one2.ensures c.before.before.put-two2.ensures)
+    let n = c.args.n in
+    rw (← decimal_is n 3 (three_digits n c.if-n-lt100.false c.if-n-lt1000.true), in_parts 1 2 n) (then c.put_one-a.ensures c.put_two-then-n-lt1000.ensures)
 
-put-four-requires : tie.Need-put-four-requires
-put-four-requires c κs = let n = c.before.before.before.before.before.args.n in omega (arith, c.before.before.before.before.before.requires.1, decimal_length n 4 (four_digits n c.before.if3.false c.before.before.before.before.before.requires.0))
+put-four-requires : tie.Need-put_four-requires
+put-four-requires c κs = let n = c.args.n in omega (arith, c.requires.1, decimal_length n 4 (four_digits n c.if-n-lt1000.false c.requires.0))
 
-returns-4 : tie.Need-returns-4
-returns-4 c = let n = c.before.before.before.before.before.before.before.before.args.n in rw (← decimal_is n 4 (four_digits n c.before.before.before.before.if3.false c.before.before.before.before.before.before.before.before.requires.0)) c.before.before.put_four.ensures
+returns-4 : tie.Need-returns
+returns-4 c = let n = c.args.n in rw (← decimal_is n 4 (four_digits n c.if-n-lt1000.false c.requires.0)) c.put_four.ensures
 
-pub put-few-spec : {M : Type 1} → statement M
-put-few-spec =
+pub put_few_spec : {M : Type 1} → statement M
+put_few_spec =
     tie.close
     (tie.spec
     put-one-requires

@@ -6,10 +6,10 @@ use Rattle.listing.proofs.decimal.put_four.Statement.{statement}
 use Rattle.listing.proofs.decimal.put_four.Tie as tie
 
 returns : tie.Need-returns
-returns c = rw (in_parts 2 2 c.before.before.before.before.before.before.before.before.before.args.n) (then c.before.before.before.before.before.before.put_two.ensures c.before.before.put-two2.ensures)
+returns c = rw (in_parts 2 2 c.args.n) (then c.put_two-a.ensures c.put_two.ensures)
 
-pub put-four-spec : {M : Type 1} → statement M
-put-four-spec =
+pub put_four_spec : {M : Type 1} → statement M
+put_four_spec =
     tie.close
     (tie.spec
     (λ c κs. search rules)

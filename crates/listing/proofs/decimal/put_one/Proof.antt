@@ -4,8 +4,8 @@ use Rattle.std.proofs.Common.{rules}
 use Rattle.listing.proofs.decimal.put_one.Statement.{statement}
 use Rattle.listing.proofs.decimal.put_one.Tie as tie
 
-pub put-one-spec : {M : Type 1} → statement M
-put-one-spec =
+pub put_one_spec : {M : Type 1} → statement M
+put_one_spec =
     tie.close
     (tie.spec
     (λ c. search rules)

@@ -4,8 +4,8 @@ use Rattle.listing.proofs.Spelling.{two_put}
 use Rattle.listing.proofs.decimal.put_two.Statement.{statement}
 use Rattle.listing.proofs.decimal.put_two.Tie as tie
 
-pub put-two-spec : {M : Type 1} → statement M
-put-two-spec =
+pub put_two_spec : {M : Type 1} → statement M
+put_two_spec =
     tie.close
     (tie.spec
     (λ c. search rules)

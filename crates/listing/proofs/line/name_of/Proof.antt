@@ -5,26 +5,26 @@ use Rattle.listing.specs.Lines.{name_for}
 use Rattle.listing.proofs.line.name_of.Statement.{statement}
 use Rattle.listing.proofs.line.name_of.Tie as tie
 
-returns : tie.Need-returns
+returns : tie.Need-returns-then-kind-eq3
 unfolding name_for
 returns c =
-    let a = c.before.before.args in
-    rw (eq-eqb a.kind 3 c.before.if1.true, c.response-name.ensures) (response_spells a.code, response_inside a.code)
+    let a = c.args in
+    rw (eq-eqb a.kind 3 c.if-kind-eq3.true, c.response_name.ensures) (response_spells a.code, response_inside a.code)
 
-returns-2 : tie.Need-returns-2
+returns-2 : tie.Need-returns-then-kind-eq4
 unfolding name_for
 returns-2 c =
-    let k = c.before.before.args.kind in
-    (rw (ne_eqb k 3 c.before.if1.false, eq-eqb k 4 c.if2.true), tt)
+    let k = c.args.kind in
+    (rw (ne_eqb k 3 c.if-kind-eq3.false, eq-eqb k 4 c.if-kind-eq4.true), tt)
 
-returns-3 : tie.Need-returns-3
+returns-3 : tie.Need-returns
 unfolding name_for
 returns-3 c =
-    let a = c.before.before.before.args in
-    rw (ne_eqb a.kind 3 c.before.before.if1.false, ne_eqb a.kind 4 c.before.if2.false, c.command-name.ensures) (command_spells a.code, command_inside a.code)
+    let a = c.args in
+    rw (ne_eqb a.kind 3 c.if-kind-eq3.false, ne_eqb a.kind 4 c.if-kind-eq4.false, c.command_name.ensures) (command_spells a.code, command_inside a.code)
 
-pub name-of-spec : {M : Type 1} → statement M
-name-of-spec =
+pub name_of_spec : {M : Type 1} → statement M
+name_of_spec =
     tie.close
     (tie.spec
     (λ c κs. search rules)

@@ -6,47 +6,47 @@ use Rattle.listing.proofs.Pieces.{container_length}
 use Rattle.listing.proofs.line.put_container.Statement.{statement}
 use Rattle.listing.proofs.line.put_container.Tie as tie
 
-put-place-requires : tie.Need-put-place-requires
+put-place-requires : tie.Need-put_place-a-requires
 put-place-requires c κs =
-    let k = c.before.before.before.before in
+    let k = c in
     omega (arith, k.requires.1, container_length k.args.place k.args.kind k.args.x)
 
-put-way-requires : tie.Need-put-way-requires
+put-way-requires : tie.Need-put_way-b-requires
 put-way-requires c κs =
-    let k = c.before.before.before.before.before.before.before.before in
-    let p = c.before.before.before.put-place.ensures in
+    let k = c in
+    let p = c.put_place-a.ensures in
     omega (arith, k.requires.1, container_length k.args.place k.args.kind k.args.x, p.place, long p)
 
-put-kind-requires : tie.Need-put-kind-requires
+put-kind-requires : tie.Need-put_kind-c-requires
 put-kind-requires c κs =
-    let k = c.before.before.before.before.before.before.before.before.before.before.before.before in
-    let p = c.before.before.before.before.before.before.before.put-place.ensures in
-    let q = c.before.before.before.put-way.ensures in
+    let k = c in
+    let p = c.put_place-a.ensures in
+    let q = c.put_way-b.ensures in
     omega (arith, k.requires.1, container_length k.args.place k.args.kind k.args.x, p.place, long p, q.place, long q)
 
-put-code-requires : tie.Need-put-code-requires
+put-code-requires : tie.Need-put_code-d-requires
 put-code-requires c κs =
-    let k = c.before.before.before.before.before.before.before.before.before.before.before.before.before.before.before.before in
-    let p = c.before.before.before.before.before.before.before.before.before.before.before.put-place.ensures in
-    let q = c.before.before.before.before.before.before.before.put-way.ensures in
-    let r = c.before.before.before.put-kind.ensures in
+    let k = c in
+    let p = c.put_place-a.ensures in
+    let q = c.put_way-b.ensures in
+    let r = c.put_kind-c.ensures in
     (k.requires.0, omega (arith, k.requires.1, container_length k.args.place k.args.kind k.args.x, p.place, long p, q.place, long q, r.place, long r))
 
-put-counts-requires : tie.Need-put-counts-requires
+put-counts-requires : tie.Need-put_counts-requires
 put-counts-requires c κs =
-    let k = c.before.before.before.before.before.before.before.before.before.before.before.before.before.before.before.before.before.before.before.before.before in
-    let p = c.before.before.before.before.before.before.before.before.before.before.before.before.before.before.before.before.put-place.ensures in
-    let q = c.before.before.before.before.before.before.before.before.before.before.before.before.put-way.ensures in
-    let r = c.before.before.before.before.before.before.before.before.put-kind.ensures in
-    let s = c.before.before.before.before.put-code.ensures in
+    let k = c in
+    let p = c.put_place-a.ensures in
+    let q = c.put_way-b.ensures in
+    let r = c.put_kind-c.ensures in
+    let s = c.put_code-d.ensures in
     omega (arith, k.requires.1, container_length k.args.place k.args.kind k.args.x, p.place, long p, q.place, long q, r.place, long r, s.place, long s)
 
 returns : tie.Need-returns
 unfolding container_line
-returns c = then (then (then (then c.before.before.before.before.before.before.before.before.before.before.before.before.before.before.before.before.before.before.before.put-place.ensures c.before.before.before.before.before.before.before.before.before.before.before.before.before.before.before.put-way.ensures) c.before.before.before.before.before.before.before.before.before.before.before.put-kind.ensures) c.before.before.before.before.before.before.before.put-code.ensures) c.before.before.put-counts.ensures
+returns c = then (then (then (then c.put_place-a.ensures c.put_way-b.ensures) c.put_kind-c.ensures) c.put_code-d.ensures) c.put_counts.ensures
 
-pub put-container-spec : {M : Type 1} → statement M
-put-container-spec =
+pub put_container_spec : {M : Type 1} → statement M
+put_container_spec =
     tie.close
     (tie.spec
     put-place-requires

@@ -7,58 +7,55 @@ use Rattle.listing.proofs.Pieces.{ending_length}
 use Rattle.listing.proofs.line.put_ending.Statement.{statement}
 use Rattle.listing.proofs.line.put_ending.Tie as tie
 
-put-bytes-requires : tie.Need-put-bytes-requires
+put-bytes-requires : tie.Need-put_bytes-a-requires
 put-bytes-requires c κs =
-    let k = c.before.before.before in
+    let k = c in
     omega (arith, k.requires, ending_length k.args.records k.args.count, ending_short k.args.records k.args.count k.ranges.records.fits k.ranges.count.fits)
 
-put-requires : tie.Need-put-requires
+put-requires : tie.Need-put-b-requires
 put-requires c κs =
-    let k = c.before.before.before.before.before.before.before in
-    let p = c.before.before.before.put-bytes.ensures in
+    let k = c in
+    let p = c.put_bytes-a.ensures in
     omega (arith, k.requires, ending_length k.args.records k.args.count, ending_short k.args.records k.args.count k.ranges.records.fits k.ranges.count.fits, p.place, long p)
 
-put-bytes-requires-2 : tie.Need-put-bytes-requires-2
+put-bytes-requires-2 : tie.Need-put_bytes-c-requires
 put-bytes-requires-2 c κs =
-    let k = c.before.before.before.before.before.before.before.before.before.before.before.before in
-    let p = c.before.before.before.before.before.before.before.before.put-bytes.ensures in
-    let q = c.before.before.before.before.put.ensures in
+    let k = c in
+    let p = c.put_bytes-a.ensures in
+    let q = c.put-b.ensures in
     omega (arith, k.requires, ending_length k.args.records k.args.count, ending_short k.args.records k.args.count k.ranges.records.fits k.ranges.count.fits, p.place, long p, q.place, long q)
 
-put-requires-2 : tie.Need-put-requires-2
+put-requires-2 : tie.Need-put-d-requires
 put-requires-2 c κs =
-    let k = c.before.before.before.before.before.before.before.before.before.before.before.before.before.before.before.before in
-    let p = c.before.before.before.before.before.before.before.before.before.before.before.before.put-bytes.ensures in
-    let q = c.before.before.before.before.before.before.before.before.put.ensures in
-    let r = c.before.before.before.put-bytes2.ensures in
+    let k = c in
+    let p = c.put_bytes-a.ensures in
+    let q = c.put-b.ensures in
+    let r = c.put_bytes-c.ensures in
     omega (arith, k.requires, ending_length k.args.records k.args.count, ending_short k.args.records k.args.count k.ranges.records.fits k.ranges.count.fits, p.place, long p, q.place, long q, r.place, long r)
 
-put-bytes-requires-3 : tie.Need-put-bytes-requires-3
+put-bytes-requires-3 : tie.Need-put_bytes-requires
 put-bytes-requires-3 c κs =
-    let k = c.before.before.before.before.before.before.before.before.before.before.before.before.before.before.before.before.before.before.before.before.before in
-    let p = c.before.before.before.before.before.before.before.before.before.before.before.before.before.before.before.before.before.put-bytes.ensures in
-    let q = c.before.before.before.before.before.before.before.before.before.before.before.before.before.put.ensures in
-    let r = c.before.before.before.before.before.before.before.before.put-bytes2.ensures in
-    let s = c.before.before.before.before.put2.ensures in
+    let k = c in
+    let p = c.put_bytes-a.ensures in
+    let q = c.put-b.ensures in
+    let r = c.put_bytes-c.ensures in
+    let s = c.put-d.ensures in
     omega (arith, k.requires, ending_length k.args.records k.args.count, ending_short k.args.records k.args.count k.ranges.records.fits k.ranges.count.fits, p.place, long p, q.place, long q, r.place, long r, s.place, long s)
 
 returns : tie.Need-returns
 unfolding ending
 returns c =
-    let k = c.before.before.before.before.before.before.before.before.before.before.before.before.before.before.before.before.before.before.before.before.before.before.before.before in
-    ending_placed k.ranges.records.fits k.ranges.count.fits (then (then (then (then c.before.before.before.before.before.before.before.before.before.before.before.before.before.before.before.before.before.before.before.before.put-bytes.ensures c.before.before.before.before.before.before.before.before.before.before.before.before.before.before.before.before.put.ensures) c.before.before.before.before.before.before.before.before.before.before.before.put-bytes2.ensures) c.before.before.before.before.before.before.before.put2.ensures) c.before.before.put-bytes3.ensures)
+    let k = c in
+    ending_placed k.ranges.records.fits k.ranges.count.fits (then (then (then (then c.put_bytes-a.ensures c.put-b.ensures) c.put_bytes-c.ensures) c.put-d.ensures) c.put_bytes.ensures)
 
-pub put-ending-spec : {M : Type 1} → statement M
-put-ending-spec =
+pub put_ending_spec : {M : Type 1} → statement M
+put_ending_spec =
     tie.close
     (tie.spec
-    (λ c. search rules)
     put-bytes-requires
     put-requires
-    (λ c. search rules)
     put-bytes-requires-2
     put-requires-2
-    (λ c. search rules)
     put-bytes-requires-3
     (λ c. search rules)
     returns)

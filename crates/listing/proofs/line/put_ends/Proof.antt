@@ -5,21 +5,21 @@ use Rattle.listing.proofs.Ends.{ends}
 use Rattle.listing.proofs.line.put_ends.Statement.{statement}
 use Rattle.listing.proofs.line.put_ends.Tie as tie
 
-put-bytes-requires : tie.Need-put-bytes-requires
-put-bytes-requires c κs = let k = c.before.before.before.before in omega (arith, k.requires.2, length-take-le k.args.n k.args.text.now k.requires.0)
+put-bytes-requires : tie.Need-put_bytes-requires
+put-bytes-requires c κs = let k = c in omega (arith, k.requires.2, length-take-le k.args.n k.args.text.now k.requires.0)
 
 returns : tie.Need-returns
 returns c =
-    let k = c.before.before.before.before.before.before.before.before.before.before.before.before in
+    let k = c in
     let t = k.args.text.now in
-    ends k.requires.0 k.requires.1 c.before.before.before.before.before.before.before.put-bytes.ensures (rw (part_from t (length t - k.args.n)) at c.before.before.put-bytes2.ensures)
+    ends k.requires.0 k.requires.1 c.put_bytes.ensures (rw (part_from t (length t - k.args.n)) at c.put_bytes-2.ensures)
 
-pub put-ends-spec : {M : Type 1} → statement M
-put-ends-spec =
+pub put_ends_spec : {M : Type 1} → statement M
+put_ends_spec =
     tie.close
     (tie.spec
     (λ c. search rules)
-    (λ c. sym (length-take-le c.before.before.before.args.n c.before.before.before.args.text.now c.before.before.before.requires.0))
+    (λ c. sym (length-take-le c.args.n c.args.text.now c.requires.0))
     put-bytes-requires
     (λ c. search rules)
     (λ c. search rules)

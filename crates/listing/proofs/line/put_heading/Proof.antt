@@ -6,13 +6,12 @@ use Rattle.listing.proofs.line.put_heading.Tie as tie
 
 returns : tie.Need-returns
 unfolding heading
-returns c = c.before.before.put-bytes.ensures
+returns c = c.put_bytes.ensures
 
-pub put-heading-spec : {M : Type 1} → statement M
-put-heading-spec =
+pub put_heading_spec : {M : Type 1} → statement M
+put_heading_spec =
     tie.close
     (tie.spec
-    (λ c. search rules)
     (λ c κs. search rules)
     (λ c. search rules)
     returns)

@@ -12,17 +12,16 @@ use Rattle.listing.proofs.line.put_hex.Tie as tie
 returns : tie.Need-returns
 unfolding hex_code
 returns c =
-    let h = c.before.before.before.before.before.before.before.before.before.before.hex in
-    let code = c.before.before.before.before.before.before.before.before.before.before.before.before.before.args.code in
+    let h = c.hex-k in
+    let code = c.args.code in
     let four = hex_is code h.result (omega arith) h.ensures.1.0 in
-    row2 (spelled "0x") (last_digits 16 4 code) c.before.before.before.before.before.before.before.before.before.before.before.before.before.requires c.before.before.before.before.before.before.before.copy.ensures (rw (shown h.result _ _ h.ensures.1.1, four) at c.before.before.copy2.ensures)
+    row2 (spelled "0x") (last_digits 16 4 code) c.requires c.copy-a.ensures (rw (shown h.result _ _ h.ensures.1.1.0, four) at c.copy.ensures)
 
-pub put-hex-spec : {M : Type 1} → statement M
-put-hex-spec =
+pub put_hex_spec : {M : Type 1} → statement M
+put_hex_spec =
     tie.close
     (tie.spec
     (λ c κs. search rules)
-    (λ c. search rules)
     (λ c κs. search rules)
     (λ c. search rules)
     (λ c. search rules)

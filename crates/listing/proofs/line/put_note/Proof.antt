@@ -6,45 +6,43 @@ use Rattle.listing.proofs.Pieces.{note_length}
 use Rattle.listing.proofs.line.put_note.Statement.{statement}
 use Rattle.listing.proofs.line.put_note.Tie as tie
 
-put-place-requires : tie.Need-put-place-requires
+put-place-requires : tie.Need-put_place-a-requires
 put-place-requires c κs =
-    let k = c.before.before in
+    let k = c in
     omega (arith, k.requires, note_length k.args.place k.args.count)
 
-put-bytes-requires : tie.Need-put-bytes-requires
+put-bytes-requires : tie.Need-put_bytes-b-requires
 put-bytes-requires c κs =
-    let k = c.before.before.before.before.before.before.before in
-    let p = c.before.before.before.before.put-place.ensures in
+    let k = c in
+    let p = c.put_place-a.ensures in
     omega (arith, k.requires, note_length k.args.place k.args.count, p.place, long p)
 
-put-requires : tie.Need-put-requires
+put-requires : tie.Need-put-c-requires
 put-requires c κs =
-    let k = c.before.before.before.before.before.before.before.before.before.before.before in
-    let p = c.before.before.before.before.before.before.before.before.put-place.ensures in
-    let q = c.before.before.before.put-bytes.ensures in
+    let k = c in
+    let p = c.put_place-a.ensures in
+    let q = c.put_bytes-b.ensures in
     omega (arith, k.requires, note_length k.args.place k.args.count, p.place, long p, q.place, long q)
 
-put-bytes-requires-2 : tie.Need-put-bytes-requires-2
+put-bytes-requires-2 : tie.Need-put_bytes-requires
 put-bytes-requires-2 c κs =
-    let k = c.before.before.before.before.before.before.before.before.before.before.before.before.before.before.before.before in
-    let p = c.before.before.before.before.before.before.before.before.before.before.before.before.before.put-place.ensures in
-    let q = c.before.before.before.before.before.before.before.before.put-bytes.ensures in
-    let r = c.before.before.before.before.put.ensures in
+    let k = c in
+    let p = c.put_place-a.ensures in
+    let q = c.put_bytes-b.ensures in
+    let r = c.put-c.ensures in
     omega (arith, k.requires, note_length k.args.place k.args.count, p.place, long p, q.place, long q, r.place, long r)
 
 returns : tie.Need-returns
 unfolding note_line
-returns c = then (then (then c.before.before.before.before.before.before.before.before.before.before.before.before.before.before.before.before.put-place.ensures c.before.before.before.before.before.before.before.before.before.before.before.put-bytes.ensures) c.before.before.before.before.before.before.before.put.ensures) c.before.before.put-bytes2.ensures
+returns c = then (then (then c.put_place-a.ensures c.put_bytes-b.ensures) c.put-c.ensures) c.put_bytes.ensures
 
-pub put-note-spec : {M : Type 1} → statement M
-put-note-spec =
+pub put_note_spec : {M : Type 1} → statement M
+put_note_spec =
     tie.close
     (tie.spec
     put-place-requires
-    (λ c. search rules)
     put-bytes-requires
     put-requires
-    (λ c. search rules)
     put-bytes-requires-2
     (λ c. search rules)
     returns)

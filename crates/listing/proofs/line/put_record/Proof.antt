@@ -5,28 +5,28 @@ use Rattle.listing.proofs.Pieces.{record_note, record_holds}
 use Rattle.listing.proofs.line.put_record.Statement.{statement}
 use Rattle.listing.proofs.line.put_record.Tie as tie
 
-put-note-requires : tie.Need-put-note-requires
+put-note-requires : tie.Need-put_note-requires
 put-note-requires c κs =
-    let a = c.before.before.before.before.before.before.args in
-    rw (record_note a.place (record_from a.x) (ap says_content c.before.enum_told.given.1)) at c.before.before.before.before.before.before.requires.1
+    let a = c.args in
+    rw (record_note a.place (record_from a.x) (ap says_content c.in-Note.is)) at c.requires.1
 
-put-container-requires : tie.Need-put-container-requires
+put-container-requires : tie.Need-put_container-requires
 put-container-requires c κs =
-    let a = c.before.before.before.before.before.before.before.args in
-    (c.before.before.before.before.before.before.before.requires.0, rw (record_holds a.place (record_from a.x) (ap says_content c.before.before.content.given.1)) at c.before.before.before.before.before.before.before.requires.1)
+    let a = c.args in
+    (c.requires.0, rw (record_holds a.place (record_from a.x) (ap says_content c.in-Holds.is)) at c.requires.1)
 
-returns : tie.Need-returns
+returns : tie.Need-returns-in-Note
 returns c =
-    let a = c.before.before.before.before.before.before.before.before.before.args in
-    rw (record_note a.place (record_from a.x) (ap says_content c.before.before.before.before.enum_told.given.1)) c.before.before.put-note.ensures
+    let a = c.args in
+    rw (record_note a.place (record_from a.x) (ap says_content c.in-Note.is)) c.put_note.ensures
 
-returns-2 : tie.Need-returns-2
+returns-2 : tie.Need-returns-in-Holds
 returns-2 c =
-    let a = c.before.before.before.before.before.before.before.before.before.before.args in
-    rw (record_holds a.place (record_from a.x) (ap says_content c.before.before.before.before.before.content.given.1)) c.before.before.put-container.ensures
+    let a = c.args in
+    rw (record_holds a.place (record_from a.x) (ap says_content c.in-Holds.is)) c.put_container.ensures
 
-pub put-record-spec : {M : Type 1} → statement M
-put-record-spec =
+pub put_record_spec : {M : Type 1} → statement M
+put_record_spec =
     tie.close
     (tie.spec
     (λ c. search rules)

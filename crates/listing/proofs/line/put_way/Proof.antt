@@ -4,31 +4,29 @@ use Rattle.listing.specs.Lines.{way_text}
 use Rattle.listing.proofs.line.put_way.Statement.{statement}
 use Rattle.listing.proofs.line.put_way.Tie as tie
 
-put-bytes-requires : tie.Need-put-bytes-requires
+put-bytes-requires : tie.Need-put_bytes-requires
 unfolding way_text
-put-bytes-requires c κs = rw (eq-eqb c.before.before.before.before.args.kind 1 c.before.before.if1.true) at c.before.before.before.before.requires
+put-bytes-requires c κs = rw (eq-eqb c.args.kind 1 c.if-kind-eq1.true) at c.requires
 
-returns : tie.Need-returns
+returns : tie.Need-returns-then-kind-eq1
 unfolding way_text
-returns c = rw (eq-eqb c.before.before.before.before.before.before.before.args.kind 1 c.before.before.before.before.before.if1.true) c.before.before.put-bytes.ensures
+returns c = rw (eq-eqb c.args.kind 1 c.if-kind-eq1.true) c.put_bytes.ensures
 
-put-bytes-requires-2 : tie.Need-put-bytes-requires-2
+put-bytes-requires-2 : tie.Need-put_bytes-requires-2
 unfolding way_text
-put-bytes-requires-2 c κs = rw (ne_eqb c.before.before.before.before.args.kind 1 c.before.before.if1.false) at c.before.before.before.before.requires
+put-bytes-requires-2 c κs = rw (ne_eqb c.args.kind 1 c.if-kind-eq1.false) at c.requires
 
-returns-2 : tie.Need-returns-2
+returns-2 : tie.Need-returns
 unfolding way_text
-returns-2 c = rw (ne_eqb c.before.before.before.before.before.before.before.args.kind 1 c.before.before.before.before.before.if1.false) c.before.before.put-bytes2.ensures
+returns-2 c = rw (ne_eqb c.args.kind 1 c.if-kind-eq1.false) c.put_bytes-2.ensures
 
-pub put-way-spec : {M : Type 1} → statement M
-put-way-spec =
+pub put_way_spec : {M : Type 1} → statement M
+put_way_spec =
     tie.close
     (tie.spec
-    (λ c. search rules)
     put-bytes-requires
     (λ c. search rules)
     returns
-    (λ c. search rules)
     put-bytes-requires-2
     (λ c. search rules)
     returns-2)

@@ -4,7 +4,7 @@ use Rattle.listing.proofs.turn.list_held.Statement.{statement}
 use Rattle.listing.proofs.turn.list_held.Tie as tie
 
 returns : tie.Need-returns
-returns c = rw (← c.before.before.before.before.rest_of.ensures) c.before.before.list-window.ensures
+returns c = rw (← c.rest_of.ensures) c.list_window.ensures
 
-pub list-held-spec : {M : Type 1} → statement M
-list-held-spec = tie.close (tie.spec (λ c κs. search rules) (λ c κs. search rules) (λ c. search rules) returns)
+pub list_held_spec : {M : Type 1} → statement M
+list_held_spec = tie.close (tie.spec (λ c κs. search rules) (λ c κs. search rules) (λ c. search rules) returns)

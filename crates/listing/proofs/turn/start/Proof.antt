@@ -4,4 +4,4 @@ use Rattle.listing.proofs.turn.start.Statement.{statement}
 use Rattle.listing.proofs.turn.start.Tie as tie
 
 pub start_spec : {M : Type 1} → statement M
-start_spec = tie.close (tie.spec (λ c κs. search rules) (λ c. rw c.nothing.ensures))
+start_spec = tie.close (tie.spec (λ c κs. search rules) (λ c. rw c.nothing-hold.ensures))

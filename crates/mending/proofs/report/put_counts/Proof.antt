@@ -7,29 +7,24 @@ use Rattle.mending.proofs.Reporting.{counts_put}
 use Rattle.mending.proofs.report.put_counts.Statement.{statement}
 use Rattle.mending.proofs.report.put_counts.Tie as tie
 
-line : (c : tie.After-copy5) → let k = c.before.before.before.before.before.before.before.before.before.before.before.before.before.before.before.before.before.before.before.before.before.before.before.before.before.before.before.before.before.before.before.before.before.before.before.before.before.before.before.before.args in Put k.out.now 0 (counts_line k.records k.bytes k.stretches k.dropped) c.copy5.new.1.1.1.0 c.copy5.result × (c.copy5.result ≤ length k.out.now)
+line : (c : tie.After-copy) → let k = c.args in Put k.out.now 0 (counts_line k.records k.bytes k.stretches k.dropped) c.copy.new.out c.copy.result × (c.copy.result ≤ length k.out.now)
 line c =
-    let k = c.before.before.before.before.before.before.before.before.before.before.before.before.before.before.before.before.before.before.before.before.before.before.before.before.before.before.before.before.before.before.before.before.before.before.before.before.before.before.before.before in
-    counts_put k.args.records k.args.bytes k.args.stretches k.args.dropped k.ranges.records.fits k.ranges.bytes.fits k.ranges.stretches.fits k.ranges.dropped.fits k.requires c.before.before.before.before.before.before.before.before.before.before.before.before.before.before.before.before.before.before.before.before.before.before.before.before.before.before.before.before.before.before.before.before.before.before.before.before.copy.ensures
-    c.before.before.before.before.before.before.before.before.before.before.before.before.before.before.before.before.before.before.before.before.before.before.before.before.before.before.before.before.before.before.before.before.put-number.ensures c.before.before.before.before.before.before.before.before.before.before.before.before.before.before.before.before.before.before.before.before.before.before.before.before.before.before.before.copy2.ensures c.before.before.before.before.before.before.before.before.before.before.before.before.before.before.before.before.before.before.before.before.before.before.before.put-number2.ensures c.before.before.before.before.before.before.before.before.before.before.before.before.before.before.before.before.before.before.copy3.ensures c.before.before.before.before.before.before.before.before.before.before.before.before.before.before.put-number3.ensures c.before.before.before.before.before.before.before.before.before.copy4.ensures c.before.before.before.before.before.put-number4.ensures c.copy5.ensures
+    let k = c in
+    counts_put k.args.records k.args.bytes k.args.stretches k.args.dropped k.ranges.records.fits k.ranges.bytes.fits k.ranges.stretches.fits k.ranges.dropped.fits k.requires c.copy-a.ensures
+    c.put_number-b.ensures c.copy-c.ensures c.put_number-d.ensures c.copy-e.ensures c.put_number-f.ensures c.copy-g.ensures c.put_number-h.ensures c.copy.ensures
 
-pub put-counts-spec : {M : Type 1} → statement M
-put-counts-spec =
+pub put_counts_spec : {M : Type 1} → statement M
+put_counts_spec =
     tie.close
     (tie.spec
-    (λ c. search rules)
     (λ c κs. search rules)
     (λ c κs. search rules)
-    (λ c. search rules)
     (λ c κs. search rules)
     (λ c κs. search rules)
-    (λ c. search rules)
     (λ c κs. search rules)
     (λ c κs. search rules)
-    (λ c. search rules)
     (λ c κs. search rules)
     (λ c κs. search rules)
-    (λ c. search rules)
     (λ c κs. search rules)
     (λ c. long (line c.before.before).0)
     (λ c. line c.before.before))

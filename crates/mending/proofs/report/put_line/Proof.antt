@@ -6,18 +6,16 @@ use Rattle.mending.proofs.report.put_line.Tie as tie
 
 returns : tie.Need-returns
 returns c =
-    let k = c.before.before.before.before.before.before.before.before.before.before.before.before.before.before.before.before.before.before.before in
-    stretch_put k.args.start k.args.count k.ranges.start.fits k.ranges.count.fits k.requires c.before.before.before.before.before.before.before.before.before.before.before.before.before.before.before.before.put-number.ensures c.before.before.before.before.before.before.before.before.before.before.before.copy.ensures c.before.before.before.before.before.before.before.put-number2.ensures c.before.before.copy2.ensures
+    let k = c in
+    stretch_put k.args.start k.args.count k.ranges.start.fits k.ranges.count.fits k.requires c.put_number-a.ensures c.copy-b.ensures c.put_number-c.ensures c.copy.ensures
 
-pub put-line-spec : {M : Type 1} → statement M
-put-line-spec =
+pub put_line_spec : {M : Type 1} → statement M
+put_line_spec =
     tie.close
     (tie.spec
     (λ c κs. search rules)
-    (λ c. search rules)
     (λ c κs. search rules)
     (λ c κs. search rules)
-    (λ c. search rules)
     (λ c κs. search rules)
     (λ c. search rules)
     returns)

@@ -7,49 +7,49 @@ use Rattle.mending.specs.Passed.{Drops, none_dropped, one_dropped, at-end, waiti
 use Rattle.mending.proofs.search.gap_end.Statement.{statement}
 use Rattle.mending.proofs.search.gap_end.Tie as tie
 
-abbrev invariant-loop : tie.invariant-loop
+abbrev invariant-loop : tie.invariant-loop-at
 invariant-loop s from last at₀ at = Drops last s from at × (from ≤ at) × (at ≤ length s)
 
-abbrev decreases-loop : tie.decreases-loop
+abbrev decreases-loop : tie.decreases-loop-at
 decreases-loop s from last at₀ at = length s - at
 
-loop-holds : tie.Need-loop-init invariant-loop decreases-loop
-loop-holds c = (none_dropped, omega arith, c.before.requires)
+loop-holds : tie.Need-loop-at-init invariant-loop decreases-loop
+loop-holds c = (none_dropped, omega arith, c.requires)
 
-returns : tie.Need-returns invariant-loop decreases-loop
+returns : tie.Need-returns-in-Got invariant-loop decreases-loop
 returns c =
-    let l = c.before.before.before.before.before in
-    let s = l.before.before.args.s.now in
-    let e = rw (part_from s l.loop.at) at (heard says_front c.enum_told.given.1 c.before.before.read-front.ensures.answer) in
-    record { drops = l.loop.invariant.0; held = stands c.before.before.before.before.loop-test.true e; least = l.loop.invariant.1; within = l.loop.invariant.2 }
+    let l = c in
+    let s = l.args.s.now in
+    let e = rw (part_from s l.loop-at.at) at (heard says_front c.in-Got.is c.read_front.ensures.answer) in
+    record { drops = l.loop-at.invariant.0; held = stands c.loop-at-test.true e; least = l.loop-at.invariant.1; within = l.loop-at.invariant.2 }
 
-returns-2 : tie.Need-returns-2 invariant-loop decreases-loop
+returns-2 : tie.Need-returns-in-Cut invariant-loop decreases-loop
 unfolding waits is_cut
 returns-2 c =
-    let l = c.before.before.before.before.before in
-    let a = l.before.before.args in
-    let w : waits a.last (drop l.loop.at a.s.now) ≡ true = rw (part_from a.s.now l.loop.at) at (sym (heard may_change c.enum-told2.given.1 c.before.before.read-front.ensures.waiting)) in
-    record { drops = l.loop.invariant.0; held = waiting c.before.before.before.before.loop-test.true w; least = l.loop.invariant.1; within = l.loop.invariant.2 }
+    let l = c in
+    let a = l.args in
+    let w : waits a.last (drop l.loop-at.at a.s.now) ≡ true = rw (part_from a.s.now l.loop-at.at) at (sym (heard may_change c.in-Cut.is c.read_front.ensures.waiting)) in
+    record { drops = l.loop-at.invariant.0; held = waiting c.loop-at-test.true w; least = l.loop-at.invariant.1; within = l.loop-at.invariant.2 }
 
-loop-again : tie.Need-loop-preserved invariant-loop decreases-loop
+loop-again : tie.Need-loop-at-preserved invariant-loop decreases-loop
 unfolding waits is_cut
 loop-again c =
-    let l = c.before.before.before.before.before in
-    let a = l.before.before.args in
+    let l = c in
+    let a = l.args in
     let s = a.s.now in
-    let more = c.before.before.before.before.loop-test.true in
-    let p = c.before.before.read-front.ensures in
-    let w : waits a.last (drop l.loop.at s) ≡ false = rw (part_from s l.loop.at) at (sym (heard may_change c.enum-told3.given.1 p.waiting)) in
-    let e = rw (part_from s l.loop.at) at (heard says_front c.enum-told3.given.1 p.answer) in
-    (one_dropped l.loop.invariant.0 more w e, omega (arith, l.loop.invariant.1), omega arith)
+    let more = c.loop-at-test.true in
+    let p = c.read_front.ensures in
+    let w : waits a.last (drop l.loop-at.at s) ≡ false = rw (part_from s l.loop-at.at) at (sym (heard may_change c.in-Refused.is p.waiting)) in
+    let e = rw (part_from s l.loop-at.at) at (heard says_front c.in-Refused.is p.answer) in
+    (one_dropped l.loop-at.invariant.0 more w e, omega (arith, l.loop-at.invariant.1), omega arith)
 
-returns-3 : tie.Need-returns-3 invariant-loop decreases-loop
+returns-3 : tie.Need-returns invariant-loop decreases-loop
 returns-3 c =
-    let l = c.before in
-    record { drops = l.loop.invariant.0; held = at-end c.loop-test.false; least = l.loop.invariant.1; within = l.loop.invariant.2 }
+    let l = c in
+    record { drops = l.loop-at.invariant.0; held = at-end c.loop-at-test.false; least = l.loop-at.invariant.1; within = l.loop-at.invariant.2 }
 
-pub gap-end-spec : {M : Type 1} → statement M
-gap-end-spec =
+pub gap_end_spec : {M : Type 1} → statement M
+gap_end_spec =
     tie.close
     (tie.spec
     invariant-loop

@@ -3,5 +3,5 @@ use Rattle.std.proofs.Common.{rules}
 use Rattle.mending.proofs.turn.begin.Statement.{statement}
 use Rattle.mending.proofs.turn.begin.Tie as tie
 
-pub begin-spec : {M : Type 1} → statement M
-begin-spec = tie.close (tie.spec (λ c κs. search rules) (λ c κs. search rules) (λ c. rw (c.before.nothing.ensures, c.start.ensures)))
+pub begin_spec : {M : Type 1} → statement M
+begin_spec = tie.close (tie.spec (λ c κs. search rules) (λ c κs. search rules) (λ c. rw (c.nothing-hold.ensures, c.start-tally.ensures)))

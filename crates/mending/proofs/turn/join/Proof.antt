@@ -3,5 +3,5 @@ use Rattle.std.proofs.Common.{rules}
 use Rattle.mending.proofs.turn.join.Statement.{statement}
 use Rattle.mending.proofs.turn.join.Tie as tie
 
-pub join-spec : {M : Type 1} → statement M
-join-spec = tie.close (tie.spec (λ c κs. search rules) (λ c. rw c.before.join.ensures))
+pub join_spec : {M : Type 1} → statement M
+join_spec = tie.close (tie.spec (λ c κs. search rules) (λ c. rw c.join-hold.ensures))

@@ -6,14 +6,14 @@ use Rattle.mending.proofs.turn.put_last.Tie as tie
 
 returns : tie.Need-returns
 returns c =
-    let k = c.before.before.before.before.before.before in
-    let r = c.before.before.before.before.wrapping-sub-u64 in
-    let g = k.well-formed in
+    let k = c in
+    let r = c.wrapping_sub_u64-dropped in
+    let g = k.well_formed in
     let small : k.args.t.bytes < 2 ^ 64 = omega arith in
-    rw (← less r.result k.args.t.place k.args.t.bytes r.type-inv small r.ensures) c.before.before.put-counts.ensures
+    rw (← less r.result k.args.t.place k.args.t.bytes r.type_inv small r.ensures) c.put_counts.ensures
 
-pub put-last-spec : {M : Type 1} → statement M
-put-last-spec =
+pub put_last_spec : {M : Type 1} → statement M
+put_last_spec =
     tie.close
     (tie.spec
     (λ c κs. search rules)

@@ -7,59 +7,59 @@ use Rattle.mending.proofs.turn.take_turn.Statement.{statement}
 use Rattle.mending.proofs.turn.take_turn.Tie as tie
 
 -- the lent arrays are as long as the definition's
-room : (c : tie.After-mend-held) → length c.before.before.before.before.before.before.before.args.out.now ≡ size
+room : (c : tie.After-mend_held-done) → length c.args.out.now ≡ size
 room c = omega arith
 
-one : (c : tie.After-mend-held) → length c.before.before.before.before.before.before.before.args.starts.now ≡ slots
+one : (c : tie.After-mend_held-done) → length c.args.starts.now ≡ slots
 one c = omega arith
 
-two : (c : tie.After-mend-held) → length c.before.before.before.before.before.before.before.args.lengths.now ≡ slots
+two : (c : tie.After-mend_held-done) → length c.args.lengths.now ≡ slots
 two c = omega arith
 
-wide : (c : tie.After-mend-held) → length c.before.before.before.before.before.before.before.args.window.now ≡ size
+wide : (c : tie.After-mend_held-done) → length c.args.window.now ≡ size
 wide c = omega arith
 
-add-from : tie.Need-overflow-add-from
+add-from : tie.Need-overflow_add-from
 add-from c =
-    let k = c.before.before.before in
-    let a = k.before.before.before.before.before.before.before.args in
-    omega (arith, used_fits a.window.now a.s.hold (state a.s.stretches a.s.tally) (room k) (one k) (two k) k.mend-held.ensures, wide k)
+    let k = c in
+    let a = k.args in
+    omega (arith, used_fits a.window.now a.s.hold (state a.s.stretches a.s.tally) (room c.before.before.before) (one c.before.before.before) (two c.before.before.before) k.mend_held-done.ensures, wide c.before.before.before)
 
-put-lines-requires : tie.Need-put-lines-requires
+put-lines-requires : tie.Need-put_lines-n-requires
 put-lines-requires c κs =
-    let k = c.before.before.before.before.before.before.before.before.before.before.before in
-    let a = k.before.before.before.before.before.before.before.args in
-    let f = told_fits a.window.now a.s.hold (state a.s.stretches a.s.tally) (room k) (one k) (two k) k.mend-held.ensures in
+    let k = c in
+    let a = k.args in
+    let f = told_fits a.window.now a.s.hold (state a.s.stretches a.s.tally) (room c.before.before.before.before.before.before.before.before.before.before.before) (one c.before.before.before.before.before.before.before.before.before.before.before) (two c.before.before.before.before.before.before.before.before.before.before.before) k.mend_held-done.ensures in
     (f.0, f.1, omega (arith, f.0))
 
-returns : tie.Need-returns
+returns : tie.Need-returns-then-went_on
 unfolding turn_of step_of
 returns c =
-    let k = c.before.before.before.before.before.before.before.before.before.before.before.before.before.before in
-    let a = k.before.before.before.before.before.before.before.args in
-    let p = c.before.before.put-lines.ensures in
-    rw (c.answer.ensures, c.before.standing.ensures)
-    (turn_goes a.window.now a.s.hold (state a.s.stretches a.s.tally) (room k) (one k) (two k) k.mend-held.ensures c.before.before.before.before.before.before.before.before.before.before.wrapping-add-u64.ensures (sym c.before.before.before.before.before.before.before.before.before.went_on.ensures ∙ c.before.before.before.before.before.before.before.before.if1.true) p.0 p.1)
+    let k = c in
+    let a = k.args in
+    let p = c.put_lines-n.ensures in
+    rw (c.answer.ensures, c.standing-on.ensures)
+    (turn_goes a.window.now a.s.hold (state a.s.stretches a.s.tally) (room c.before.before.before.before.before.before.before.before.before.before.before.before.before.before) (one c.before.before.before.before.before.before.before.before.before.before.before.before.before.before) (two c.before.before.before.before.before.before.before.before.before.before.before.before.before.before) k.mend_held-done.ensures c.wrapping_add_u64-all.ensures (sym c.went_on.ensures ∙ c.if-went_on.true) p.0 p.1)
 
-returns-2 : tie.Need-returns-2
+returns-2 : tie.Need-returns-then-ended
 unfolding turn_of step_of
 returns-2 c =
-    let k = c.before.before.before.before.before.before.before.before.before.before.before in
-    let a = k.before.before.before.before.before.before.before.args in
-    let p = c.before.before.put_last.ensures in
-    rw (c.answer2.ensures, c.before.standing2.ensures)
-    (turn_ends a.window.now a.s.hold (state a.s.stretches a.s.tally) (room k) (one k) (two k) k.mend-held.ensures c.before.before.before.before.before.before.before.wrapping-add-u64.ensures (sym c.before.before.before.before.before.before.went_on.ensures ∙ c.before.before.before.before.before.if1.false) c.before.before.before.before.if2.true p.0 p.1)
+    let k = c in
+    let a = k.args in
+    let p = c.put_last-n.ensures in
+    rw (c.answer-then-ended.ensures, c.standing-over.ensures)
+    (turn_ends a.window.now a.s.hold (state a.s.stretches a.s.tally) (room c.before.before.before.before.before.before.before.before.before.before.before) (one c.before.before.before.before.before.before.before.before.before.before.before) (two c.before.before.before.before.before.before.before.before.before.before.before) k.mend_held-done.ensures c.wrapping_add_u64-all.ensures (sym c.went_on.ensures ∙ c.if-went_on.false) c.if-ended.true p.0 p.1)
 
-returns-3 : tie.Need-returns-3
+returns-3 : tie.Need-returns
 unfolding turn_of step_of
 returns-3 c =
-    let k = c.before.before.before.before.before.before.before.before.before.before.before in
-    let a = k.before.before.before.before.before.before.before.args in
-    rw (c.answer3.ensures, c.before.standing3.ensures)
-    (turn_asks a.window.now a.s.hold (state a.s.stretches a.s.tally) (room k) (one k) (two k) k.mend-held.ensures c.before.before.before.before.before.before.before.wrapping-add-u64.ensures (sym c.before.before.before.before.before.before.went_on.ensures ∙ c.before.before.before.before.before.if1.false) c.before.before.before.before.if2.false c.before.before.keep.ensures)
+    let k = c in
+    let a = k.args in
+    rw (c.answer-2.ensures, c.standing-more.ensures)
+    (turn_asks a.window.now a.s.hold (state a.s.stretches a.s.tally) (room c.before.before.before.before.before.before.before.before.before.before.before) (one c.before.before.before.before.before.before.before.before.before.before.before) (two c.before.before.before.before.before.before.before.before.before.before.before) k.mend_held-done.ensures c.wrapping_add_u64-all.ensures (sym c.went_on.ensures ∙ c.if-went_on.false) c.if-ended.false c.keep-kept.ensures)
 
-pub take-turn-spec : {M : Type 1} → statement M
-take-turn-spec =
+pub take_turn_spec : {M : Type 1} → statement M
+take_turn_spec =
     tie.close
     (tie.spec
     (λ c κs. search rules)

@@ -3,11 +3,11 @@ use Rattle.std.proofs.Common.{le-ltb, lt-ltb}
 use Rattle.mending.proofs.turn.went_on.Statement.{statement}
 use Rattle.mending.proofs.turn.went_on.Tie as tie
 
-returns : tie.Need-returns
-returns c = rw (lt-ltb 0 c.before.args.used c.if1.true)
+returns : tie.Need-returns-then-used-gt0
+returns c = rw (lt-ltb 0 c.args.used c.if-used-gt0.true)
 
-returns-2 : tie.Need-returns-2
-returns-2 c = rw (le-ltb 0 c.before.args.used c.if1.false)
+returns-2 : tie.Need-returns
+returns-2 c = rw (le-ltb 0 c.args.used c.if-used-gt0.false)
 
-pub went-on-spec : {M : Type 1} → statement M
-went-on-spec = tie.close (tie.spec returns returns-2)
+pub went_on_spec : {M : Type 1} → statement M
+went_on_spec = tie.close (tie.spec returns returns-2)

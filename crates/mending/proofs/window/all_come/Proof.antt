@@ -3,11 +3,11 @@ use Rattle.std.proofs.Common.{le-ltb, lt-ltb}
 use Rattle.mending.proofs.window.all_come.Statement.{statement}
 use Rattle.mending.proofs.window.all_come.Tie as tie
 
-returns : tie.Need-returns
-returns c = rw (lt-ltb c.before.args.used c.before.args.size c.if1.true)
+returns : tie.Need-returns-then-used-size
+returns c = rw (lt-ltb c.args.used c.args.size c.if-used-size.true)
 
-returns-2 : tie.Need-returns-2
-returns-2 c = rw (le-ltb c.before.args.used c.before.args.size c.if1.false)
+returns-2 : tie.Need-returns
+returns-2 c = rw (le-ltb c.args.used c.args.size c.if-used-size.false)
 
-pub all-come-spec : {M : Type 1} → statement M
-all-come-spec = tie.close (tie.spec returns returns-2)
+pub all_come_spec : {M : Type 1} → statement M
+all_come_spec = tie.close (tie.spec returns returns-2)

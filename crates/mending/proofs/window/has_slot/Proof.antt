@@ -4,11 +4,11 @@ use Rattle.mending.proofs.Stretched.{stretch_none, stretch_one, first_slot}
 use Rattle.mending.proofs.window.has_slot.Statement.{statement}
 use Rattle.mending.proofs.window.has_slot.Tie as tie
 
-returns : tie.Need-returns
-returns c = rw (stretch_none c.before.args.place c.if1.true) (sym (le-leb 0 c.before.args.left (omega arith)))
+returns : tie.Need-returns-then-untold-eq0
+returns c = rw (stretch_none c.args.place c.if-untold-eq0.true) (sym (le-leb 0 c.args.left (omega arith)))
 
-returns-2 : tie.Need-returns-2
-returns-2 c = rw (stretch_one c.before.args.place c.before.args.untold (omega (arith, c.if1.false))) (first_slot c.before.args.left)
+returns-2 : tie.Need-returns
+returns-2 c = rw (stretch_one c.args.place c.args.untold (omega (arith, c.if-untold-eq0.false))) (first_slot c.args.left)
 
-pub has-slot-spec : {M : Type 1} → statement M
-has-slot-spec = tie.close (tie.spec returns returns-2)
+pub has_slot_spec : {M : Type 1} → statement M
+has_slot_spec = tie.close (tie.spec returns returns-2)

@@ -5,23 +5,23 @@ use Rattle.mending.proofs.Stretched.{stretch_none, stretch_one, one_slot, put_on
 use Rattle.mending.proofs.window.put_stretch.Statement.{statement}
 use Rattle.mending.proofs.window.put_stretch.Tie as tie
 
-returns : tie.Need-returns
-returns c = rw (stretch_none c.before.args.place c.if1.true) (nothing, nothing)
+returns : tie.Need-returns-then-untold-eq0
+returns c = rw (stretch_none c.args.place c.if-untold-eq0.true) (nothing, nothing)
 
 -- both lists have the place
-rooms : (c : tie.Else1) → (c.before.args.n < length c.before.args.starts.now) × (c.before.args.n < length c.before.args.lengths.now)
+rooms : (c : tie.Else-untold-eq0) → (c.args.n < length c.args.starts.now) × (c.args.n < length c.args.lengths.now)
 rooms c =
-    let a = c.before.args in
-    let some = one_slot a.place a.untold (omega (arith, c.if1.false)) in
-    (omega (arith, some, c.before.requires.1), omega (arith, some, c.before.requires.2))
+    let a = c.args in
+    let some = one_slot a.place a.untold (omega (arith, c.if-untold-eq0.false)) in
+    (omega (arith, some, c.requires.1), omega (arith, some, c.requires.2))
 
-returns-2 : tie.Need-returns-2
+returns-2 : tie.Need-returns
 returns-2 c =
-    let a = c.before.args in
-    rw (stretch_one a.place a.untold (omega (arith, c.if1.false))) (put_one a.starts.now a.n _, put_one a.lengths.now a.n _)
+    let a = c.args in
+    rw (stretch_one a.place a.untold (omega (arith, c.if-untold-eq0.false))) (put_one a.starts.now a.n _, put_one a.lengths.now a.n _)
 
-pub put-stretch-spec : {M : Type 1} → statement M
-put-stretch-spec =
+pub put_stretch_spec : {M : Type 1} → statement M
+put_stretch_spec =
     tie.close
     (tie.spec
     returns
