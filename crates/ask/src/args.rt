@@ -11,7 +11,7 @@ const MOST_WORDS: usize = 11;
 
 // Of each word, in order, a number and a count: a number's value; 1 for `book`, `out` and `own`, 0 for `crate`, `in` and `any`; where bytes, a list or a word start, and how many they are. Of the
 // last bytes or word, and of the room, again by name.
-#[derive(Drop)]
+#[derive(Clone, Copy)]
 pub(crate) struct Args {
     pub numbers: [usize; 11],
     pub counts: [usize; 11],

@@ -5,14 +5,14 @@ use stream::Came;
 const MOST_LINE: usize = 1200000;
 
 // How much of the buffer is filled, and whether the line that begins it is too long, so that its beginning is gone.
-#[derive(Drop)]
+#[derive(Clone, Copy)]
 pub(crate) struct Held {
     pub end: usize,
     pub is_long: bool,
 }
 
 // The place after all that came, and whether the reading went well.
-#[derive(Drop)]
+#[derive(Clone, Copy)]
 pub(crate) struct Filled {
     pub end: usize,
     pub ok: bool,
@@ -37,12 +37,13 @@ fn behind(end: usize, n: usize, size: usize) -> Filled {
 }
 
 // The one function that reads: once, behind what is there. The end stays where it is where nothing came; what failed is told.
-pub(crate) fn more(lines: &mut [u8], end: usize) -> Filled {
+pub(crate) fn more(rt: &HostRuntime, lines: &mut [u8], end: usize) -> Filled {
     let size = lines.len();
     match stream::read_some(
-        0,
+        &mut rt.stdin(),
         slice::part_mut(lines, end, size),
         b"ask: reading standard input",
+        &rt.stderr(),
     ) {
         Came::Bytes(n) => behind(end, n, size),
         Came::Failed => Filled { end, ok: false },

@@ -1,5 +1,6 @@
 // The questions of settings: a row's entries, the one that is kept for a camera's property, the row after a store, and without an entry; an entry from its fields.
 use crate::args::{Args, low16, low32};
+use crate::print::Answers;
 use crate::told::Told;
 use crate::{print, show, slice, told, width};
 use layout::Checked;
@@ -34,7 +35,7 @@ fn entry(x: Entry, end: usize) -> Told {
     show::slot(key(x, end).number(x.code as u64), x.code, x.value, 1)
 }
 
-fn print_entries(e: Edition, src: &[u8], count: usize, text: &mut [u8], to: usize) -> usize {
+fn print_entries(e: Edition, src: &[u8], count: usize, text: &mut Answers, to: usize) -> usize {
     let mut at: usize = 0;
     let mut o = to;
     let mut n: usize = 0;
@@ -52,7 +53,7 @@ fn print_entries(e: Edition, src: &[u8], count: usize, text: &mut [u8], to: usiz
     o
 }
 
-pub(crate) fn row(a: Args, src: &[u8], text: &mut [u8], at: usize) -> usize {
+pub(crate) fn row(a: Args, src: &[u8], text: &mut Answers, at: usize) -> usize {
     let e = edition(a);
     match settings::check_row(e, src) {
         Checked::Whole(count) => {
@@ -75,7 +76,7 @@ fn found(f: Found) -> Told {
     }
 }
 
-pub(crate) fn find(a: Args, src: &[u8], numbers: &[u32], text: &mut [u8], at: usize) -> usize {
+pub(crate) fn find(a: Args, src: &[u8], numbers: &[u32], text: &mut Answers, at: usize) -> usize {
     let mut room = width::halves_room();
     let n = width::to16(slice::part32(numbers, a.numbers[4], a.counts[4]), &mut room);
     let f = settings::find(

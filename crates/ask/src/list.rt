@@ -3,8 +3,10 @@ ghost use Rattle.std.specs.Prelude.{◌≡◌};
 ghost use Rattle.wire.specs.List.{place_of, step_at, says_step};
 ghost use Rattle.wire.specs.Property.{has_enable};
 
+use crate::args::Args;
+use crate::print::Answers;
 use crate::told::Told;
-use crate::{show, told};
+use crate::{reads, show, told};
 use wire::{Place, PropLayout, Step, Values};
 
 // The step from the list's beginning.
@@ -52,7 +54,7 @@ fn print_steps(
     src: &[u8],
     ty: u16,
     refusal: u8,
-    text: &mut [u8],
+    text: &mut Answers,
     to: usize,
 ) -> usize {
     let mut step = first(l, src);
@@ -80,9 +82,11 @@ fn head(p: Place, steps: u64) -> Told {
     t.number(steps)
 }
 
-pub(crate) fn answer(l: PropLayout, src: &[u8], text: &mut [u8], at: usize) -> usize {
-    let p = wire::place_of(l, src);
-    let n = steps(l, src, p.ty, p.refusal);
+pub(crate) fn answer(a: Args, src: &[u8], text: &mut Answers, at: usize) -> usize {
+    let p = wire::place_of(reads::layout(a), src);
+    let ty = p.ty;
+    let refusal = p.refusal;
+    let n = steps(reads::layout(a), src, ty, refusal);
     let o = show::tell(text, at, src, head(p, n));
-    print_steps(l, src, p.ty, p.refusal, text, o)
+    print_steps(reads::layout(a), src, ty, refusal, text, o)
 }

@@ -1,4 +1,5 @@
 // A recording's listing, window by window, with its line ends escaped.
+use crate::print::Answers;
 use crate::{print, slice};
 use layout::Written;
 use listing::Tally;
@@ -11,14 +12,14 @@ struct Shown {
     at: usize,
 }
 
-fn put_escaped(text: &mut [u8], at: usize, b: u8) -> usize {
+fn put_escaped(text: &mut Answers, at: usize, b: u8) -> usize {
     if b == b'\n' {
         return print::put_all(text, at, b"\\n");
     }
     print::put(text, at, b)
 }
 
-fn escaped(text: &mut [u8], at: usize, s: &[u8]) -> usize {
+fn escaped(text: &mut Answers, at: usize, s: &[u8]) -> usize {
     let mut o = at;
     let mut i: usize = 0;
     while i < s.len() {
@@ -29,7 +30,7 @@ fn escaped(text: &mut [u8], at: usize, s: &[u8]) -> usize {
 }
 
 // The heading, or the ending.
-fn escaped_writing(text: &mut [u8], at: usize, w: Written, out: &[u8]) -> usize {
+fn escaped_writing(text: &mut Answers, at: usize, w: Written, out: &[u8]) -> usize {
     match w {
         Written::Done(n) => escaped(text, at, slice::counted(out, 0, n)),
         // never: the room is larger than either
@@ -48,7 +49,7 @@ fn behind(from: usize, used: usize, end: usize) -> usize {
 }
 
 // As many windows as the output's room makes of the recording.
-fn list_all(src: &[u8], out: &mut [u8], text: &mut [u8], at: usize) -> Shown {
+fn list_all(src: &[u8], out: &mut [u8], text: &mut Answers, at: usize) -> Shown {
     let mut place: u64 = 0;
     let mut records: u64 = 0;
     let mut from: usize = 0;
@@ -75,7 +76,7 @@ fn list_all(src: &[u8], out: &mut [u8], text: &mut [u8], at: usize) -> Shown {
     }
 }
 
-fn list_into(src: &[u8], out: &mut [u8], text: &mut [u8], at: usize) -> usize {
+fn list_into(src: &[u8], out: &mut [u8], text: &mut Answers, at: usize) -> usize {
     let o = print::put_all(text, at, b"ok ");
     let heading = listing::write_heading(out);
     let a = escaped_writing(text, o, heading, out);
@@ -90,7 +91,7 @@ fn list_into(src: &[u8], out: &mut [u8], text: &mut [u8], at: usize) -> usize {
     escaped_writing(text, shown.at, ending, out)
 }
 
-pub(crate) fn answer(src: &[u8], text: &mut [u8], at: usize) -> usize {
+pub(crate) fn answer(src: &[u8], text: &mut Answers, at: usize) -> usize {
     let mut out = crate::out_room();
     list_into(src, &mut out, text, at)
 }

@@ -1,5 +1,6 @@
 // The questions whose answers have no bound, or that need a list that is no writer's: their text is put as it comes.
 use crate::args::Args;
+use crate::print::Answers;
 use crate::told::Told;
 use crate::{
     batch, kept, list, listed, mended, objects, print, reads, recorded, show, slice, told,
@@ -14,16 +15,20 @@ fn chosen(c: Chosen) -> Told {
     told::ok().word(b"description").span(c.start, c.len)
 }
 
-fn newer(a: Args, line: &[u8], text: &mut [u8], at: usize) -> usize {
-    let l = reads::layout(a);
+fn newer(a: Args, line: &[u8], text: &mut Answers, at: usize) -> usize {
     let d = slice::counted(line, a.numbers[1], a.counts[1]);
     let p = slice::counted(line, a.numbers[2], a.counts[2]);
-    let o = show::tell(text, at, d, chosen(wire::newer_place(l, d, p)));
-    print::output(text, o, wire::newer(l, d, p))
+    let o = show::tell(
+        text,
+        at,
+        d,
+        chosen(wire::newer_place(reads::layout(a), d, p)),
+    );
+    print::output(text, o, wire::newer(reads::layout(a), d, p))
 }
 
 // The copier's answer, then the records and the bytes that were left out.
-fn print_copied(c: Copied, page: &[u8], text: &mut [u8], at: usize) -> usize {
+fn print_copied(c: Copied, page: &[u8], text: &mut Answers, at: usize) -> usize {
     match c {
         Copied::Done(n, left) => {
             let told = show::tell(text, at, page, told::ok().number(n as u64));
@@ -40,7 +45,7 @@ fn print_copied(c: Copied, page: &[u8], text: &mut [u8], at: usize) -> usize {
     }
 }
 
-fn copy(a: Args, src: &[u8], text: &mut [u8], at: usize) -> usize {
+fn copy(a: Args, src: &[u8], text: &mut Answers, at: usize) -> usize {
     let mut out = crate::out_room();
     let page = print::page(&mut out, a.room);
     let c = recording::copy_records(src, page);
@@ -54,11 +59,11 @@ pub(crate) fn of(
     line: &[u8],
     src: &[u8],
     numbers: &[u32],
-    text: &mut [u8],
+    text: &mut Answers,
     at: usize,
 ) -> usize {
     match arm {
-        b'l' => list::answer(reads::layout(a), src, text, at),
+        b'l' => list::answer(a, src, text, at),
         b'n' => newer(a, line, text, at),
         b'w' => objects::walk(a, line, numbers, text, at),
         b'v' => objects::places(true, a, line, numbers, text, at),

@@ -1,6 +1,8 @@
 // Answers questions, one a line, from standard input (docs/ASK.md). A question is a row of the table in question.rt, an arm of its
 // group, and a function there. The words of a line are read by args, many, number, slice and table, brought to another width by width, and its answer is printed by told and
 // print: these know no question.
+#![tactic(auto)]
+
 mod args;
 mod batch;
 mod fields;
@@ -28,7 +30,9 @@ mod writes;
 
 use args::Args;
 use input::Held;
+use print::Answers;
 use question::Question;
+use std::process::ExitCode;
 
 // Where the first line stands that is not answered, and the place after the answers.
 #[derive(Drop)]
@@ -61,7 +65,7 @@ fn write(
     line: &[u8],
     src: &[u8],
     numbers: &[u32],
-    text: &mut [u8],
+    text: &mut Answers,
     at: usize,
 ) -> usize {
     let mut out = out_room();
@@ -74,7 +78,14 @@ fn write(
     print::output(text, o, page)
 }
 
-fn reply(q: Question, a: Args, line: &[u8], numbers: &[u32], text: &mut [u8], at: usize) -> usize {
+fn reply(
+    q: Question,
+    a: Args,
+    line: &[u8],
+    numbers: &[u32],
+    text: &mut Answers,
+    at: usize,
+) -> usize {
     let src = slice::counted(line, a.start, a.count);
     if q.group == question::READS {
         return show::tell(text, at, src, reads::of(q.arm, a, src));
@@ -85,7 +96,7 @@ fn reply(q: Question, a: Args, line: &[u8], numbers: &[u32], text: &mut [u8], at
     long::of(q.arm, a, line, src, numbers, text, at)
 }
 
-fn answer(line: &mut [u8], text: &mut [u8], at: usize) -> usize {
+fn answer(line: &mut [u8], text: &mut Answers, at: usize) -> usize {
     let mut numbers = numbers_room();
     let end = slice::find(line, 0, b' ');
     let q = question::named(slice::part(line, 0, end));
@@ -97,7 +108,7 @@ fn answer(line: &mut [u8], text: &mut [u8], at: usize) -> usize {
 }
 
 // An answer with its line end; of a line that is too long not all is there.
-fn answer_line(line: &mut [u8], is_long: bool, text: &mut [u8], at: usize) -> usize {
+fn answer_line(line: &mut [u8], is_long: bool, text: &mut Answers, at: usize) -> usize {
     if is_long || input::is_too_long(line) {
         let o = print::unknown(text, at);
         return print::put(text, o, b'\n');
@@ -107,7 +118,7 @@ fn answer_line(line: &mut [u8], is_long: bool, text: &mut [u8], at: usize) -> us
 }
 
 // Answers each line that ends before a place, as long as what is said can be written; the first has no end in what was held.
-fn answer_lines(lines: &mut [u8], held: Held, end: usize, text: &mut [u8]) -> Done {
+fn answer_lines(lines: &mut [u8], held: Held, end: usize, text: &mut Answers) -> Done {
     let mut start: usize = 0;
     let mut seen = held.end;
     let mut is_long = held.is_long;
@@ -129,7 +140,7 @@ fn answer_lines(lines: &mut [u8], held: Held, end: usize, text: &mut [u8]) -> Do
 }
 
 // The last line, which has no end, if there is one.
-fn answer_last(lines: &mut [u8], held: Held, text: &mut [u8]) {
+fn answer_last(lines: &mut [u8], held: Held, text: &mut Answers) {
     let end = held.end;
     let is_long = held.is_long;
     if is_long || 0 < end {
@@ -138,7 +149,7 @@ fn answer_last(lines: &mut [u8], held: Held, text: &mut [u8]) {
     }
 }
 
-fn answer_block(lines: &mut [u8], held: Held, end: usize, text: &mut [u8]) -> Turn {
+fn answer_block(lines: &mut [u8], held: Held, end: usize, text: &mut Answers) -> Turn {
     let done = answer_lines(lines, held, end, text);
     let ok = print::flush(text, done.at);
     Turn {
@@ -148,7 +159,7 @@ fn answer_block(lines: &mut [u8], held: Held, end: usize, text: &mut [u8]) -> Tu
 }
 
 // Until the input ends, or a reading or a writing fails.
-fn run(lines: &mut [u8], text: &mut [u8]) {
+fn run(rt: &HostRuntime, lines: &mut [u8], text: &mut Answers) {
     let mut held = Held {
         end: 0,
         is_long: false,
@@ -156,7 +167,7 @@ fn run(lines: &mut [u8], text: &mut [u8]) {
     // the input ends before the turns do
     let mut turns = u64::MAX;
     while turns > 0 {
-        let came = input::more(lines, held.end);
+        let came = input::more(rt, lines, held.end);
         if !came.ok {
             return;
         }
@@ -173,8 +184,12 @@ fn run(lines: &mut [u8], text: &mut [u8]) {
     }
 }
 
-fn main() {
+fn main(rt: HostRuntime) -> ExitCode {
     let mut lines = input::room();
-    let mut text = io::large_buffer();
-    run(&mut lines, &mut text);
+    let mut text = print::empty(&rt);
+    run(&rt, &mut lines, &mut text);
+    if print::is_gone(&text) {
+        return ExitCode::from(stream::GONE);
+    }
+    ExitCode::SUCCESS
 }

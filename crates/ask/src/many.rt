@@ -6,7 +6,7 @@ use crate::{number, slice};
 // A number of a list stands at most so often.
 const MOST_TIMES: u64 = 4096;
 
-#[derive(Drop)]
+#[derive(Clone, Copy)]
 pub(crate) struct Count {
     pub n: usize,
     pub ok: bool,
@@ -51,7 +51,7 @@ pub(crate) fn hex_bytes(w: &mut [u8]) -> Count {
 }
 
 // A number, and how often it stands.
-#[derive(Drop)]
+#[derive(Clone, Copy)]
 struct Run {
     v: u32,
     times: usize,

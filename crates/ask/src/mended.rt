@@ -1,5 +1,6 @@
 // A damaged recording mended: what is kept, and the report, whose two lists are printed by runs.
 use crate::args::Args;
+use crate::print::Answers;
 use crate::told::Told;
 use crate::{print, show, told};
 use mending::Mended;
@@ -10,12 +11,12 @@ fn report_room() -> [u64; 4096] {
 }
 
 // The answer's first words, then the output.
-fn put_output(text: &mut [u8], at: usize, t: Told, page: &[u8]) -> usize {
+fn put_output(text: &mut Answers, at: usize, t: Told, page: &[u8]) -> usize {
     let o = show::tell(text, at, page, t);
     print::output(text, o, page)
 }
 
-fn put_answer(text: &mut [u8], at: usize, m: Mended, page: &[u8]) -> usize {
+fn put_answer(text: &mut Answers, at: usize, m: Mended, page: &[u8]) -> usize {
     match m {
         Mended::Done(count, stretches) => {
             let o = put_output(text, at, told::ok().number(count as u64), page);
@@ -26,7 +27,7 @@ fn put_answer(text: &mut [u8], at: usize, m: Mended, page: &[u8]) -> usize {
     }
 }
 
-pub(crate) fn answer(a: Args, src: &[u8], text: &mut [u8], at: usize) -> usize {
+pub(crate) fn answer(a: Args, src: &[u8], text: &mut Answers, at: usize) -> usize {
     let mut out = crate::out_room();
     let mut first = report_room();
     let mut second = report_room();

@@ -3,7 +3,7 @@ ghost use Rattle.std.specs.Prelude.{◌≡◌, ◌≤◌};
 
 use crate::print::wide8;
 
-#[derive(Drop)]
+#[derive(Clone, Copy)]
 pub(crate) struct Parsed {
     pub v: u64,
     pub ok: bool,

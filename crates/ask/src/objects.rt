@@ -1,6 +1,7 @@
 // The questions of a table of objects: its walk, its folder view, its paths; its links; an object deleted, the live ones collected, one added.
 // A table is six words: handles, parents, ends and marks, the count, the name bytes. The links of one that keeps them are two more.
 use crate::args::{Args, low32};
+use crate::print::Answers;
 use crate::told::Told;
 use crate::{print, show, slice, told, width};
 use layout::Written;
@@ -45,25 +46,25 @@ fn stops_room() -> [u32; 1024] {
 }
 
 // A space and the list, whole.
-fn put8(text: &mut [u8], at: usize, list: &[u8]) -> usize {
+fn put8(text: &mut Answers, at: usize, list: &[u8]) -> usize {
     let mut room = width::longs_room();
     let n = width::from8(list, &mut room);
     print::put_list(text, at, slice::part64(&room, n))
 }
 
-pub(crate) fn put16(text: &mut [u8], at: usize, list: &[u16]) -> usize {
+pub(crate) fn put16(text: &mut Answers, at: usize, list: &[u16]) -> usize {
     let mut room = width::longs_room();
     let n = width::from16(list, &mut room);
     print::put_list(text, at, slice::part64(&room, n))
 }
 
-fn put32(text: &mut [u8], at: usize, list: &[u32]) -> usize {
+fn put32(text: &mut Answers, at: usize, list: &[u32]) -> usize {
     let mut room = width::longs_room();
     let n = width::from32(list, &mut room);
     print::put_list(text, at, slice::part64(&room, n))
 }
 
-fn put_order(text: &mut [u8], at: usize, line: &[u8], order: Order) -> usize {
+fn put_order(text: &mut Answers, at: usize, line: &[u8], order: Order) -> usize {
     let refusal = order.refusal;
     if refusal.no != 0 {
         return show::tell(text, at, line, told::refused(refusal));
@@ -73,7 +74,7 @@ fn put_order(text: &mut [u8], at: usize, line: &[u8], order: Order) -> usize {
     put16(text, o, slice::part16(&places, order.count))
 }
 
-pub(crate) fn walk(a: Args, line: &[u8], numbers: &[u32], text: &mut [u8], at: usize) -> usize {
+pub(crate) fn walk(a: Args, line: &[u8], numbers: &[u32], text: &mut Answers, at: usize) -> usize {
     let mut halves = width::halves_room();
     let mut bytes = width::bytes_room();
     let p = width::to16(parents(a, numbers), &mut halves);
@@ -122,7 +123,7 @@ fn some_places(
     )
 }
 
-fn put_places(text: &mut [u8], at: usize, line: &[u8], w: Written, places: &[u16]) -> usize {
+fn put_places(text: &mut Answers, at: usize, line: &[u8], w: Written, places: &[u16]) -> usize {
     match w {
         Written::Done(n) => {
             let o = print::put_all(text, at, b"ok");
@@ -137,7 +138,7 @@ pub(crate) fn places(
     a: Args,
     line: &[u8],
     numbers: &[u32],
-    text: &mut [u8],
+    text: &mut Answers,
     at: usize,
 ) -> usize {
     let mut halves = width::halves_room();
@@ -175,13 +176,18 @@ pub(crate) fn path(a: Args, line: &[u8], numbers: &[u32], page: &mut [u8]) -> To
 }
 
 // The writer's answer, then where each path ends.
-fn put_paths(text: &mut [u8], at: usize, w: Written, page: &[u8], stops: &[u32]) -> usize {
-    let told = show::tell(text, at, page, told::written(w));
-    let o = print::output(text, told, page);
-    if let Written::Refused(_) = w {
-        return o;
+fn put_paths(text: &mut Answers, at: usize, w: Written, page: &[u8], stops: &[u32]) -> usize {
+    match w {
+        Written::Done(n) => {
+            let told = show::tell(text, at, page, told::written(Written::Done(n)));
+            let o = print::output(text, told, page);
+            put32(text, o, stops)
+        }
+        Written::Refused(f) => {
+            let told = show::tell(text, at, page, told::refused(f));
+            print::output(text, told, page)
+        }
     }
-    put32(text, o, stops)
 }
 
 // Which paths are asked for, by the letter of the question's arm.
@@ -231,7 +237,7 @@ pub(crate) fn paths(
     a: Args,
     line: &[u8],
     numbers: &[u32],
-    text: &mut [u8],
+    text: &mut Answers,
     at: usize,
 ) -> usize {
     let mut halves = width::halves_room();
@@ -261,7 +267,13 @@ fn deleted(c: Checked) -> Told {
     }
 }
 
-pub(crate) fn delete(a: Args, line: &[u8], numbers: &[u32], text: &mut [u8], at: usize) -> usize {
+pub(crate) fn delete(
+    a: Args,
+    line: &[u8],
+    numbers: &[u32],
+    text: &mut Answers,
+    at: usize,
+) -> usize {
     let mut halves = width::halves_room();
     let mut bytes = width::bytes_room();
     let p = width::to16(parents(a, numbers), &mut halves);
@@ -280,12 +292,12 @@ pub(crate) fn delete(a: Args, line: &[u8], numbers: &[u32], text: &mut [u8], at:
 }
 
 // A space and each list of links, whole.
-fn put_links(text: &mut [u8], at: usize, first: &[u16], next: &[u16]) -> usize {
+fn put_links(text: &mut Answers, at: usize, first: &[u16], next: &[u16]) -> usize {
     let o = put16(text, at, first);
     put16(text, o, next)
 }
 
-pub(crate) fn link(a: Args, line: &[u8], numbers: &[u32], text: &mut [u8], at: usize) -> usize {
+pub(crate) fn link(a: Args, line: &[u8], numbers: &[u32], text: &mut Answers, at: usize) -> usize {
     let mut halves = width::halves_room();
     let mut bytes = width::bytes_room();
     let p = width::to16(parents(a, numbers), &mut halves);
@@ -308,7 +320,7 @@ pub(crate) fn link(a: Args, line: &[u8], numbers: &[u32], text: &mut [u8], at: u
 
 // The marks after, and the links.
 fn put_deleted(
-    text: &mut [u8],
+    text: &mut Answers,
     at: usize,
     line: &[u8],
     c: Checked,
@@ -325,7 +337,7 @@ pub(crate) fn delete_linked(
     a: Args,
     line: &[u8],
     numbers: &[u32],
-    text: &mut [u8],
+    text: &mut Answers,
     at: usize,
 ) -> usize {
     let mut ps = width::halves_room();
@@ -360,7 +372,7 @@ pub(crate) fn delete_linked(
 
 // The five lists and the new places, whole.
 fn put_table(
-    text: &mut [u8],
+    text: &mut Answers,
     at: usize,
     handles: &[u32],
     parents: &[u16],
@@ -470,7 +482,7 @@ fn put_changed(
     names: &mut [u8],
     first: &mut [u16],
     next: &mut [u16],
-    text: &mut [u8],
+    text: &mut Answers,
     at: usize,
 ) -> usize {
     let mut news = places_room();
@@ -498,7 +510,7 @@ fn change_lists(
     numbers: &[u32],
     first: &mut [u16],
     next: &mut [u16],
-    text: &mut [u8],
+    text: &mut Answers,
     at: usize,
 ) -> usize {
     let mut hs = width::numbers_room();
@@ -536,7 +548,7 @@ pub(crate) fn change(
     a: Args,
     line: &[u8],
     numbers: &[u32],
-    text: &mut [u8],
+    text: &mut Answers,
     at: usize,
 ) -> usize {
     let mut fs = width::halves_room();

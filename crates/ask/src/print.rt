@@ -1,9 +1,11 @@
-// The text of the answers: a lent buffer, and the place after what stands in it. A full buffer is written out and
+// The text of the answers, which goes to standard output, and the place after what stands in it. Where the text is full it is written out and
 // begun again, so every function here takes the place and answers the next. Where it could not be written, the place is one behind
-// the buffer from then on, and nothing more is put or written.
+// the text's room from then on, and nothing more is put or written.
 ghost use Rattle.std.specs.Prelude.{◌<◌, length};
 
 use crate::slice;
+use std::io::{Stderr, Stdout};
+use stream::Wrote;
 
 const FILLING: u8 = 0xa5;
 
@@ -12,31 +14,62 @@ const FILLING_64: u64 = 0xa5a5_a5a5_a5a5_a5a5;
 
 const LOST: usize = 0xFFFF_FFFF_FFFF_FFFF;
 
-// The one function that writes: whether all was written. What failed is told.
-fn write(s: &[u8]) -> bool {
-    stream::write_all(1, s, b"ask: writing standard output")
+#[derive(Drop)]
+pub(crate) struct Answers {
+    text: [u8; 65536],
+    to: Stdout,
+    told: Stderr,
+    is_gone: bool,
 }
 
-pub(crate) fn is_lost(text: &[u8], at: usize) -> bool {
-    text.len() < at
+pub(crate) fn empty(rt: &HostRuntime) -> Answers {
+    Answers {
+        text: io::large_buffer(),
+        to: rt.stdout(),
+        told: rt.stderr(),
+        is_gone: false,
+    }
 }
 
-pub(crate) fn put(text: &mut [u8], at: usize, b: u8) -> usize {
-    if at < text.len() {
-        text[at] = b;
+// The one function that writes: whether all before the place was written. What failed is told.
+fn write(text: &mut Answers, at: usize) -> bool {
+    match stream::write_all(
+        &mut text.to,
+        slice::part(&text.text, 0, at),
+        b"ask: writing standard output",
+        &text.told,
+    ) {
+        Wrote::All => true,
+        Wrote::Failed => false,
+        Wrote::Gone => {
+            text.is_gone = true;
+            false
+        }
+    }
+}
+
+// Whether the reader of the answers has gone away.
+pub(crate) fn is_gone(text: &Answers) -> bool {
+    text.is_gone
+}
+
+pub(crate) fn is_lost(text: &Answers, at: usize) -> bool {
+    text.text.len() < at
+}
+
+pub(crate) fn put(text: &mut Answers, at: usize, b: u8) -> usize {
+    if at < text.text.len() {
+        text.text[at] = b;
         return at + 1;
     }
-    if is_lost(text, at) || !write(text) {
+    if is_lost(text, at) || !write(text, at) {
         return LOST;
     }
-    if 0 < text.len() {
-        text[0] = b;
-        return 1;
-    }
-    0
+    text.text[0] = b;
+    1
 }
 
-pub(crate) fn put_all(text: &mut [u8], at: usize, s: &[u8]) -> usize {
+pub(crate) fn put_all(text: &mut Answers, at: usize, s: &[u8]) -> usize {
     let mut o = at;
     let mut i: usize = 0;
     while i < s.len() {
@@ -46,7 +79,7 @@ pub(crate) fn put_all(text: &mut [u8], at: usize, s: &[u8]) -> usize {
     o
 }
 
-pub(crate) fn decimal(text: &mut [u8], at: usize, n: u64) -> usize {
+pub(crate) fn decimal(text: &mut Answers, at: usize, n: u64) -> usize {
     let mut digits = [0u8; 20];
     let k = io::decimal(n, &mut digits);
     put_all(text, at, &digits[..k])
@@ -62,13 +95,13 @@ fn glyph(d: u8) -> u8 {
     b'?'
 }
 
-pub(crate) fn hex(text: &mut [u8], at: usize, b: u8) -> usize {
+pub(crate) fn hex(text: &mut Answers, at: usize, b: u8) -> usize {
     let o = put(text, at, glyph(b / 16));
     put(text, o, glyph(b % 16))
 }
 
 // Two digits a byte, `-` for none.
-pub(crate) fn bytes(text: &mut [u8], at: usize, s: &[u8]) -> usize {
+pub(crate) fn bytes(text: &mut Answers, at: usize, s: &[u8]) -> usize {
     if s.len() == 0 {
         return put(text, at, b'-');
     }
@@ -82,7 +115,7 @@ pub(crate) fn bytes(text: &mut [u8], at: usize, s: &[u8]) -> usize {
 }
 
 // What is put between the items of a list: nothing before the first.
-pub(crate) fn between(text: &mut [u8], at: usize, i: usize, b: u8) -> usize {
+pub(crate) fn between(text: &mut Answers, at: usize, i: usize, b: u8) -> usize {
     if i == 0 {
         return at;
     }
@@ -106,7 +139,7 @@ fn run_end(list: &[u64], from: usize) -> usize
 }
 
 // A number and, where it stands more than once, how often.
-fn run(text: &mut [u8], at: usize, n: u64, times: usize) -> usize {
+fn run(text: &mut Answers, at: usize, n: u64, times: usize) -> usize {
     let o = decimal(text, at, n);
     if times < 2 {
         return o;
@@ -116,7 +149,7 @@ fn run(text: &mut [u8], at: usize, n: u64, times: usize) -> usize {
 }
 
 // Joined by commas, equal neighbours as one with their count, `-` for none.
-pub(crate) fn runs(text: &mut [u8], at: usize, list: &[u64]) -> usize {
+pub(crate) fn runs(text: &mut Answers, at: usize, list: &[u64]) -> usize {
     if list.len() == 0 {
         return put(text, at, b'-');
     }
@@ -132,20 +165,20 @@ pub(crate) fn runs(text: &mut [u8], at: usize, list: &[u64]) -> usize {
 }
 
 // A space and the list.
-pub(crate) fn put_list(text: &mut [u8], at: usize, list: &[u64]) -> usize {
+pub(crate) fn put_list(text: &mut Answers, at: usize, list: &[u64]) -> usize {
     let o = put(text, at, b' ');
     runs(text, o, list)
 }
 
 // Writes what stands before the place: whether all is written.
-pub(crate) fn flush(text: &[u8], at: usize) -> bool {
+pub(crate) fn flush(text: &mut Answers, at: usize) -> bool {
     if is_lost(text, at) {
         return false;
     }
-    write(slice::part(text, 0, at))
+    write(text, at)
 }
 
-pub(crate) fn unknown(text: &mut [u8], at: usize) -> usize {
+pub(crate) fn unknown(text: &mut Answers, at: usize) -> usize {
     put(text, at, b'?')
 }
 
@@ -192,7 +225,7 @@ fn fill64(list: &mut [u64]) {
 }
 
 // A space and the bytes.
-pub(crate) fn output(text: &mut [u8], at: usize, out: &[u8]) -> usize {
+pub(crate) fn output(text: &mut Answers, at: usize, out: &[u8]) -> usize {
     let o = put(text, at, b' ');
     bytes(text, o, out)
 }

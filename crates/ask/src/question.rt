@@ -21,7 +21,7 @@ const TABLE: [u8; 1176] = *b"\
     write-value wv 2wr;\
     write-string ws hr;\
     write-array wa 2br;\
-    tidy_value wV 2br;\
+    tidy-value wV 2br;\
     device rd b;\
     object ro b;\
     storage rs b;\
@@ -79,7 +79,7 @@ const TABLE: [u8; 1176] = *b"\
     mend lm brm;\
     listing lL b";
 
-#[derive(Drop)]
+#[derive(Clone, Copy)]
 pub(crate) struct Question {
     pub group: u8,
     pub arm: u8,

@@ -1,4 +1,5 @@
 // A recording as a whole: how many records it has, then of each its kind and its body's place and length.
+use crate::print::Answers;
 use crate::told::Told;
 use crate::{print, show, told};
 use recording::{ReadRecord, ReadRecording, Record};
@@ -11,7 +12,7 @@ fn record(x: Record) -> Told {
         .span(x.body.start, x.body.count)
 }
 
-fn print_records(src: &[u8], count: usize, text: &mut [u8], to: usize) -> usize {
+fn print_records(src: &[u8], count: usize, text: &mut Answers, to: usize) -> usize {
     let mut at: usize = 0;
     let mut o = to;
     let mut n: usize = 0;
@@ -29,7 +30,7 @@ fn print_records(src: &[u8], count: usize, text: &mut [u8], to: usize) -> usize 
     o
 }
 
-pub(crate) fn answer(src: &[u8], text: &mut [u8], at: usize) -> usize {
+pub(crate) fn answer(src: &[u8], text: &mut Answers, at: usize) -> usize {
     match recording::read_recording(src) {
         ReadRecording::Got(count, _) => {
             let o = show::tell(text, at, src, told::ok().number(count as u64));

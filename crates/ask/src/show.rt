@@ -1,4 +1,5 @@
 // The pieces of an answer that stand in the question's bytes: strings, arrays, rows of values.
+use crate::print::Answers;
 use crate::told::{Piece, Told};
 use crate::{print, slice, told};
 use wire::{Cursor, Part, ReadU16, ReadValue, Slot, Value};
@@ -90,12 +91,12 @@ pub(crate) fn slot(t: Told, code: u16, s: Slot, count: u16) -> Told {
 }
 
 // Four hexadecimal digits.
-fn unit(text: &mut [u8], at: usize, u: u16) -> usize {
+fn unit(text: &mut Answers, at: usize, u: u16) -> usize {
     let o = print::hex(text, at, (u / 256) as u8);
     print::hex(text, o, (u % 256) as u8)
 }
 
-fn units(text: &mut [u8], at: usize, src: &[u8], start: usize, count: usize) -> usize {
+fn units(text: &mut Answers, at: usize, src: &[u8], start: usize, count: usize) -> usize {
     let mut place = start;
     let mut o = print::put_all(text, at, b"s<");
     let mut i: usize = 0;
@@ -115,7 +116,7 @@ fn units(text: &mut [u8], at: usize, src: &[u8], start: usize, count: usize) -> 
 }
 
 // A value that is no array.
-fn single(text: &mut [u8], at: usize, src: &[u8], p: Piece) -> usize {
+fn single(text: &mut Answers, at: usize, src: &[u8], p: Piece) -> usize {
     if p.kind == TEXT {
         return units(text, at, src, p.a as usize, p.b as usize);
     }
@@ -123,7 +124,7 @@ fn single(text: &mut [u8], at: usize, src: &[u8], p: Piece) -> usize {
 }
 
 // So many values from a place on, none of them an array, joined by commas.
-fn row(text: &mut [u8], at: usize, src: &[u8], code: u16, start: usize, count: usize) -> usize {
+fn row(text: &mut Answers, at: usize, src: &[u8], code: u16, start: usize, count: usize) -> usize {
     let mut place = start;
     let mut o = at;
     let mut i: usize = 0;
@@ -143,7 +144,7 @@ fn row(text: &mut [u8], at: usize, src: &[u8], code: u16, start: usize, count: u
 }
 
 // A value.
-pub(crate) fn put(text: &mut [u8], at: usize, src: &[u8], p: Piece) -> usize {
+pub(crate) fn put(text: &mut Answers, at: usize, src: &[u8], p: Piece) -> usize {
     if p.kind == ITEMS {
         let o = print::put(text, at, b'[');
         let a = row(text, o, src, p.code, p.a as usize, p.b as usize);
@@ -152,12 +153,12 @@ pub(crate) fn put(text: &mut [u8], at: usize, src: &[u8], p: Piece) -> usize {
     single(text, at, src, p)
 }
 
-pub(crate) fn put_value(text: &mut [u8], at: usize, src: &[u8], code: u16, v: Value) -> usize {
+pub(crate) fn put_value(text: &mut Answers, at: usize, src: &[u8], code: u16, v: Value) -> usize {
     let o = print::put(text, at, b' ');
     put(text, o, src, piece_of(code, v))
 }
 
-fn values(text: &mut [u8], at: usize, src: &[u8], code: u16, count: usize) -> usize {
+fn values(text: &mut Answers, at: usize, src: &[u8], code: u16, count: usize) -> usize {
     let mut place: usize = 0;
     let mut o = at;
     let mut i: usize = 0;
@@ -176,19 +177,19 @@ fn values(text: &mut [u8], at: usize, src: &[u8], code: u16, count: usize) -> us
     o
 }
 
-fn numbers(text: &mut [u8], at: usize, src: &[u8], p: Piece) -> usize {
+fn numbers(text: &mut Answers, at: usize, src: &[u8], p: Piece) -> usize {
     if p.b == 0 {
         return print::put(text, at, b'-');
     }
     row(text, at, src, UINT32, p.a as usize, p.b as usize)
 }
 
-fn put_name(text: &mut [u8], at: usize, p: Piece) -> usize {
+fn put_name(text: &mut Answers, at: usize, p: Piece) -> usize {
     let names = names::name_bytes();
     print::put_all(text, at, slice::counted(&names, p.a as usize, p.b as usize))
 }
 
-fn any(text: &mut [u8], at: usize, src: &[u8], p: Piece) -> usize {
+fn any(text: &mut Answers, at: usize, src: &[u8], p: Piece) -> usize {
     if p.kind == VALUES {
         let part = slice::counted(src, p.a as usize, p.b as usize);
         return values(text, at, part, p.code, p.c as usize);
@@ -203,7 +204,7 @@ fn any(text: &mut [u8], at: usize, src: &[u8], p: Piece) -> usize {
 }
 
 // The whole answer, `?` where it is none.
-pub(crate) fn tell(text: &mut [u8], at: usize, src: &[u8], t: Told) -> usize {
+pub(crate) fn tell(text: &mut Answers, at: usize, src: &[u8], t: Told) -> usize {
     if !t.ok {
         return print::unknown(text, at);
     }

@@ -2,7 +2,7 @@
 use crate::slice;
 
 // Where in the table it stands what a name stands for.
-#[derive(Drop)]
+#[derive(Clone, Copy)]
 pub(crate) struct Found {
     pub start: usize,
     pub end: usize,

@@ -1,9 +1,10 @@
 // An answer by value: pieces that print with a space between two. What a piece's numbers mean is its kind's: here a word, a number, a
 // pair; the kinds of a program's own are printed by it. An answer of more pieces than there is room for is none, and prints as one.
+use crate::print::Answers;
 use crate::{print, slice};
 use layout::{Refusal, Written};
 
-#[derive(Drop)]
+#[derive(Clone, Copy)]
 pub(crate) struct Piece {
     pub kind: u8,
     pub code: u16,
@@ -13,7 +14,7 @@ pub(crate) struct Piece {
     pub letters: [u8; 12],
 }
 
-#[derive(Drop)]
+#[derive(Clone, Copy)]
 pub(crate) struct Told {
     pub row: [Piece; 24],
     pub n: usize,
@@ -129,7 +130,7 @@ impl Told {
 }
 
 // A piece of one of the kinds above.
-pub(crate) fn put_piece(p: Piece, text: &mut [u8], at: usize) -> usize {
+pub(crate) fn put_piece(p: Piece, text: &mut Answers, at: usize) -> usize {
     if p.kind == WORD {
         let letters = p.letters;
         return print::put_all(text, at, slice::counted(&letters, 0, p.a as usize));

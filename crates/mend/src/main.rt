@@ -2,17 +2,20 @@
 // what was dropped is told on standard error, a line a stretch, `PLACE dropped BYTES`; the last line counts both. The buffers are made once and
 // lent; `mending` says at each turn what to write and to report and whether to read, and this does so. Where a read or a write fails it stops:
 // so what stands on standard output is the whole mended recording exactly where the last line is told.
+#![tactic(auto)]
+
 ghost use Rattle.std.specs.Prelude.{◌≤◌, length};
 
-use libc::{STDERR_FILENO, STDIN_FILENO, STDOUT_FILENO};
 use mending::Stand;
-use stream::Came;
+use std::process::ExitCode;
+use stream::{Came, Wrote};
 use turns::Next;
 
 #[derive(Drop)]
 enum Going {
     On(Stand),
     Stop,
+    Gone,
 }
 
 // Room for the stretches of a turn.
@@ -21,15 +24,16 @@ fn stretch_room() -> [u64; 1024] {
 }
 
 // Reads what comes after the bytes that are held.
-fn read_on(s: Stand, window: &mut [u8]) -> Going
+fn read_on(rt: &HostRuntime, s: Stand, window: &mut [u8]) -> Going
     requires { s.hold.held ≤ length window.old }
 {
     let hold = s.hold;
     let held = hold.held;
     match stream::read_some(
-        STDIN_FILENO,
+        &mut rt.stdin(),
         &mut window[held..],
         b"mend: reading standard input",
+        &rt.stderr(),
     ) {
         Came::Bytes(n) => Going::On(mending::join(s, n)),
         Came::Failed => Going::Stop,
@@ -37,46 +41,61 @@ fn read_on(s: Stand, window: &mut [u8]) -> Going
 }
 
 // Writes a turn's bytes.
-fn show(out: &[u8], n: usize) -> bool
+fn show(rt: &HostRuntime, out: &[u8], n: usize) -> Wrote
     requires { n ≤ length out.now }
 {
-    stream::write_all(STDOUT_FILENO, &out[..n], b"mend: writing standard output")
+    stream::write_all(
+        &mut rt.stdout(),
+        &out[..n],
+        b"mend: writing standard output",
+        &rt.stderr(),
+    )
 }
 
 // Tells a turn's lines, after its bytes are written.
-fn tell(report: &[u8], n: usize) -> bool
+fn tell(rt: &HostRuntime, report: &[u8], n: usize) -> Wrote
     requires { n ≤ length report.now }
 {
-    stream::write_all(STDERR_FILENO, &report[..n], b"mend: writing standard error")
+    stream::write_all(
+        &mut rt.stderr(),
+        &report[..n],
+        b"mend: writing standard error",
+        &rt.stderr(),
+    )
 }
 
 fn one_turn(
+    rt: &HostRuntime,
     s: Stand,
-    window: &mut [u8; 131072],
-    out: &mut [u8; 131072],
+    window: &mut [u8; 65536],
+    out: &mut [u8; 65536],
     starts: &mut [u64; 1024],
     lengths: &mut [u64; 1024],
     report: &mut [u8; 65536],
 ) -> Going {
     let turn = mending::take_turn(s, window, out, starts, lengths, report);
-    if !show(out, turn.written) {
-        return Going::Stop;
+    match show(rt, out, turn.written) {
+        Wrote::All => {}
+        Wrote::Failed => return Going::Stop,
+        Wrote::Gone => return Going::Gone,
     }
-    if !tell(report, turn.reported) {
-        return Going::Stop;
+    match tell(rt, report, turn.reported) {
+        Wrote::All => {}
+        Wrote::Failed => return Going::Stop,
+        Wrote::Gone => return Going::Gone,
     }
     let next = turn.next;
     let stand = turn.stand;
     match next {
         Next::Again => Going::On(stand),
-        Next::Read => read_on(stand, window),
+        Next::Read => read_on(rt, stand, window),
         Next::Stop => Going::Stop,
     }
 }
 
-fn main() {
-    let mut window = [0u8; 131072];
-    let mut out = [0u8; 131072];
+fn main(rt: HostRuntime) -> ExitCode {
+    let mut window = io::large_buffer();
+    let mut out = io::large_buffer();
     let mut report = io::large_buffer();
     let mut starts = stretch_room();
     let mut lengths = stretch_room();
@@ -85,6 +104,7 @@ fn main() {
     let mut turns = u64::MAX;
     while turns > 0 {
         match one_turn(
+            &rt,
             stand,
             &mut window,
             &mut out,
@@ -96,9 +116,13 @@ fn main() {
                 stand = s;
             }
             Going::Stop => {
-                return;
+                return ExitCode::SUCCESS;
+            }
+            Going::Gone => {
+                return ExitCode::from(stream::GONE);
             }
         }
         turns -= 1;
     }
+    ExitCode::SUCCESS
 }
