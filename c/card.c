@@ -83,16 +83,20 @@ static int64_t delete_handle(struct ptp_objects *o, uint32_t handle)
     return answer;
 }
 
+/* There are as many paths as places in the walk. */
 static int64_t show_paths(const struct ptp_objects *o)
 {
     uint16_t places[PTP_PLACES];
     uint32_t ends[PTP_PLACES];
     uint8_t text[TEXT_ROOM];
-    int64_t count = ptp_objects_paths(o, text, TEXT_ROOM, ends, places, PTP_PLACES);
+    int64_t live = ptp_objects_walk(o, places, PTP_PLACES), answer = ptp_objects_paths(o, text, TEXT_ROOM, ends, PTP_PLACES);
     size_t start = 0;
-    for (int64_t n = 0; n < count; start = ends[n++])
-        printf("path /%.*s of %" PRIu32 "\n", (int)(ends[n] - start), (const char *)text + start, o->handles[places[n]]);
-    return count;
+    for (int64_t n = 0; answer >= 0 && n < live; start = ends[n++]) {
+        printf("path /");
+        fwrite(text + start, 1, ends[n] - start, stdout);
+        printf("\n");
+    }
+    return answer;
 }
 
 /* What stands behind a path's last slash. */
@@ -111,7 +115,7 @@ static int64_t show_folders(const struct ptp_objects *o)
     uint16_t places[PTP_PLACES];
     uint32_t ends[PTP_PLACES];
     uint8_t text[TEXT_ROOM];
-    int64_t count = ptp_objects_folder_paths(o, text, TEXT_ROOM, ends, places, PTP_PLACES);
+    int64_t count = ptp_objects_placed_folder_paths(o, text, TEXT_ROOM, ends, places, PTP_PLACES);
     size_t start = 0;
     for (int64_t n = 0; n < count; start = ends[n++]) {
         for (size_t place = places[n]; place > 0; place = o->parents[place])

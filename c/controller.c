@@ -10,17 +10,18 @@
 #include <stdlib.h>
 #include <string.h>
 
-/* The records of a day that are still to come. */
+/* The records of a day that are still to come. They are read one by one, so that what stands before damage is still answered. */
 struct recorded {
     const uint8_t *s;
     size_t len;
     uint64_t record[PTP_RECORD_NUMBERS];
 };
 
-/* The next record, which stays; the recording was read to its end. */
-static bool peek(struct recorded *r)
+/* The next record, which stays: 1, 0 where none is left, or a refusal. */
+static int64_t peek(struct recorded *r)
 {
-    return r->len > 0 && ptp_read_record(r->s, r->len, r->record, PTP_RECORD_NUMBERS) >= 0;
+    int64_t answer = r->len > 0 ? ptp_read_record(r->s, r->len, r->record, PTP_RECORD_NUMBERS) : 0;
+    return answer > 0 ? 1 : answer;
 }
 
 static void pass(struct recorded *r)
@@ -29,32 +30,43 @@ static void pass(struct recorded *r)
     r->len -= r->record[PTP_RECORD_TAKEN];
 }
 
+static int refused(int64_t answer)
+{
+    return DAY_REFUSED + (int)ptp_refusal_number(answer);
+}
+
 /* The next container to the camera must be this one; notes are passed over. */
 static int take(void *self, const uint8_t *container, size_t len)
 {
     struct recorded *r = (struct recorded *)self;
-    while (peek(r) && r->record[PTP_RECORD_KIND] == PTP_NOTE)
+    int64_t left;
+    while ((left = peek(r)) > 0 && r->record[PTP_RECORD_KIND] == PTP_NOTE)
         pass(r);
-    if (!peek(r) || r->record[PTP_RECORD_KIND] != PTP_TO_CAMERA || r->record[PTP_RECORD_BODY_LENGTH] != len ||
+    if (left < 0)
+        return refused(left);
+    if (left == 0 || r->record[PTP_RECORD_KIND] != PTP_TO_CAMERA || r->record[PTP_RECORD_BODY_LENGTH] != len ||
         memcmp(r->s + r->record[PTP_RECORD_BODY_START], container, len) != 0)
         return DAY_UNEXPECTED;
     pass(r);
     return 0;
 }
 
-/* Of the containers that come until the next one to the camera, as many as there is room for. */
+/* Of the containers that come until the next one to the camera, as many as there is room for. Where none is left, no Response comes. */
 static int answer(void *self, uint8_t *room, size_t room_len, size_t *count)
 {
     struct recorded *r = (struct recorded *)self;
+    int64_t left;
     *count = 0;
-    while (peek(r) && r->record[PTP_RECORD_KIND] != PTP_TO_CAMERA && r->record[PTP_RECORD_BODY_LENGTH] <= room_len - *count) {
+    while ((left = peek(r)) > 0 && r->record[PTP_RECORD_KIND] != PTP_TO_CAMERA && r->record[PTP_RECORD_BODY_LENGTH] <= room_len - *count) {
         if (r->record[PTP_RECORD_KIND] == PTP_FROM_CAMERA) {
             memcpy(room + *count, r->s + r->record[PTP_RECORD_BODY_START], r->record[PTP_RECORD_BODY_LENGTH]);
             *count += r->record[PTP_RECORD_BODY_LENGTH];
         }
         pass(r);
     }
-    return 0;
+    if (left < 0)
+        return refused(left);
+    return *count == 0 ? DAY_REFUSED + PTP_NOPHASE : 0;
 }
 
 /* A whole file, into a place of its own; NULL where it cannot be read. */
@@ -88,10 +100,7 @@ int main(int argc, char **argv)
         return 2;
     }
     day.s = bytes;
-    int64_t read = ptp_read_recording(bytes, day.len, day.record, PTP_RECORD_NUMBERS); /* it has one number */
-    if (read < 0)
-        fprintf(stderr, "refusal %d\n", (int)ptp_refusal_number(read));
-    int status = read < 0 ? 1 : run_day(transport, argv[2]);
+    int status = run_day(transport, argv[2]);
     free(bytes);
     return status;
 }

@@ -4,6 +4,7 @@
 #include "ptp_table.h"
 
 #include <inttypes.h>
+#include <limits.h>
 #include <stdio.h>
 #include <string.h>
 
@@ -17,8 +18,7 @@ enum {
     VALUE_ROOM = 65536,   /* no record holds a longer value */
     NAMES_ROOM = 1 << 16, /* for the names of all objects */
     UTF8_ROOM = 762,      /* 254 units, each of at most three bytes */
-    TEXT_ROOM = 1 << 16,  /* for paths */
-    RETRIES = 100
+    TEXT_ROOM = 1 << 16   /* for paths */
 };
 
 /* An answer, and how it ended; a step goes on while that is well. */
@@ -61,7 +61,11 @@ static void print_fault(const struct bench *b)
     case PTP_OUTCOME_RESPONSE: fprintf(stderr, "response %04x\n", (unsigned)b->reply.code); break;
     case PTP_OUTCOME_REFUSED: fprintf(stderr, "refusal %d\n", (int)ptp_refusal_number(b->reply.why)); break;
     case PTP_OUTCOME_SILENT: fprintf(stderr, "the camera sends nothing\n"); break;
-    case PTP_OUTCOME_TRANSPORT: fprintf(stderr, b->reply.why == DAY_UNEXPECTED ? "the camera expected something else\n" : "the camera is gone\n");
+    case PTP_OUTCOME_TRANSPORT:
+        if (b->reply.why > DAY_REFUSED)
+            fprintf(stderr, "refusal %d\n", (int)(b->reply.why - DAY_REFUSED));
+        else
+            fprintf(stderr, b->reply.why == DAY_UNEXPECTED ? "the camera expected something else\n" : "the camera is gone\n");
     }
 }
 
@@ -190,7 +194,7 @@ static bool find_next(const struct ptp_reply *of, const uint64_t *prop, size_t *
     }
 }
 
-/* The value that follows the current one. */
+/* The value that follows the current one, set again while the camera is busy. */
 static bool set_next(struct bench *b, const struct ptp_reply *description)
 {
     uint64_t prop[PTP_PROP_NUMBERS];
@@ -201,8 +205,10 @@ static bool set_next(struct bench *b, const struct ptp_reply *description)
     printf("set to ");
     print_value(description, start, (uint16_t)prop[PTP_PROP_DATA_TYPE]);
     printf("\n");
+    b->camera.retries = UINT_MAX;
     b->outcome = ptp_camera_set(&b->camera, BOOK, description->payload, description->payload_len, (uint16_t)prop[PTP_PROP_DATA_TYPE],
                                 description->payload + start, end - start, &b->reply);
+    b->camera.retries = 0;
     return b->outcome == PTP_OUTCOME_OK;
 }
 
@@ -231,12 +237,11 @@ static bool show_paths(struct bench *b, const struct ptp_object *objects, size_t
     static struct ptp_objects table;
     static uint8_t names[NAMES_ROOM], text[TEXT_ROOM];
     uint32_t ends[PTP_PLACES], handle;
-    uint16_t places[PTP_PLACES];
     if (!done(b, ptp_objects_begin(&table, 0, names, NAMES_ROOM)) || !expected(b, ptp_table_build(&table, objects, count, &handle) == PTP_BUILT) ||
-        !done(b, ptp_objects_paths(&table, text, TEXT_ROOM, ends, places, PTP_PLACES)))
+        !done(b, ptp_objects_paths(&table, text, TEXT_ROOM, ends, PTP_PLACES)))
         return false;
     for (size_t n = 0, start = 0; n < table.count; start = ends[n++])
-        printf("path /%.*s of %" PRIu32 "\n", (int)(ends[n] - start), (const char *)text + start, table.handles[places[n]]);
+        printf("path /%.*s\n", (int)(ends[n] - start), (const char *)text + start);
     return true;
 }
 
@@ -291,6 +296,13 @@ static bool spend_day(struct bench *b)
 
 /* ---- the recording ---- */
 
+static void say_busy(void *recorder, unsigned times)
+{
+    (void)recorder;
+    (void)times;
+    printf("the camera is busy\n");
+}
+
 static void print_lines(void *file, const uint8_t *text, size_t len)
 {
     fwrite(text, 1, len, (FILE *)file);
@@ -302,10 +314,10 @@ int run_day(struct ptp_transport transport, const char *out)
     static uint8_t made[MADE_ROOM], came[CAME_ROOM], recording[RECORDING_ROOM];
     struct ptp_recorder recorder = {recording, RECORDING_ROOM, 0, 0, 0};
     ptp_camera_begin(&bench.camera, transport, made, MADE_ROOM, came, CAME_ROOM);
-    bench.camera.retries = RETRIES;
     bench.camera.listener.self = &recorder;
     bench.camera.listener.sent = ptp_record_sent;
     bench.camera.listener.received = ptp_record_received;
+    bench.camera.listener.busy = say_busy;
     if (!spend_day(&bench)) {
         print_fault(&bench);
         return 1;

@@ -4,8 +4,8 @@
 
 #include "ptp_camera.h"
 
-/* The error of a camera that expected something else. */
-enum { DAY_UNEXPECTED = 1 };
+/* The errors of a camera that is a recording: it expected something else; or, and the number of a refusal, what it holds is refused. */
+enum { DAY_UNEXPECTED = 1, DAY_REFUSED = 256 };
 
 /* The whole day, told line by line: what was sent and received goes to the file `out`, and its listing is printed last. 0, or 1 where it failed. */
 int run_day(struct ptp_transport transport, const char *out);

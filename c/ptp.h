@@ -1,4 +1,4 @@
-/* The byte layer of the picture transfer protocol: sixty-six proved functions, in C.
+/* The byte layer of the picture transfer protocol: sixty-seven proved functions, in C.
  *
  * Each function answers how many numbers or bytes it gave, 0 or more; or a refusal, below 0: minus (its number, 1 to 22, and 256 times its
  * place), which ptp_refusal_number and ptp_refusal_place take apart. The place is that of the first byte of the field that failed, for
@@ -28,11 +28,12 @@
  * Stack: a call takes a few kilobytes, but for ptp_path and the folder view, which go as deep as the table: a chain of 1,024 objects takes
  * 136,000 bytes for its last path and 126,000 for the view, as measured on x86-64.
  *
- * What is proved: every function that is declared here stands in the archive, and is proved. Plain C are the thirteen that are defined here.
- * Four are arithmetic on one number of an answer each: ptp_refusal_number, ptp_refusal_place, ptp_string_place and ptp_array_place. Nine hand
+ * What is proved: every function that is declared here stands in the archive, and is proved. Plain C are the fifteen that are defined here.
+ * Four are arithmetic on one number of an answer each: ptp_refusal_number, ptp_refusal_place, ptp_string_place and ptp_array_place. Eleven hand
  * the parts of a struct ptp_objects on: ptp_objects_begin, ptp_objects_walk, ptp_objects_path, ptp_objects_paths, ptp_objects_folders,
- * ptp_objects_folder_paths, ptp_objects_delete, ptp_objects_collect and ptp_objects_add. Plain C beside it: ptp_camera.h, one exchange with a
- * camera; ptp_table.h, from object records to a table; ptp_codes.h, the names of events, properties, formats and the like.
+ * ptp_objects_folder_paths, ptp_objects_placed_paths, ptp_objects_placed_folder_paths, ptp_objects_delete, ptp_objects_collect and
+ * ptp_objects_add. Plain C beside it: ptp_camera.h, one exchange with a camera; ptp_table.h, from object records to a table; ptp_codes.h, the
+ * names of events, properties, formats and the like.
  */
 #ifndef PTP_H
 #define PTP_H
@@ -383,14 +384,25 @@ enum ptp_answer_number {
     PTP_ANSWER_CODE,          /* its code */
     PTP_ANSWER_PAYLOAD_START, /* the last Data container's payload: 0 and 0 without Data, and where the code is not PTP_RESPONSE_OK, below */
     PTP_ANSWER_PAYLOAD_LENGTH,
-    PTP_ANSWER_PARAMETERS_START, /* the Response's parameters, of four bytes each */
-    PTP_ANSWER_PARAMETERS_COUNT,
-    PTP_ANSWER_NUMBERS /* 6 */
+    PTP_ANSWER_NUMBERS /* 4 */
 };
 
 /* The answer to the command of this number, in containers that lie end to end. Numbers: ptp_answer_number. Refusals, container by container:
  * NOPHASE where no byte is left, END for six bytes, KIND, END for twelve, LENGTH, SIZE, TID; then ROOM. */
 int64_t ptp_find_answer(const uint8_t *s, size_t s_len, uint32_t number, uint64_t *out, size_t out_len);
+
+enum ptp_reply_number {
+    PTP_REPLY_NEXT, /* the first four are those of an answer */
+    PTP_REPLY_CODE,
+    PTP_REPLY_PAYLOAD_START,
+    PTP_REPLY_PAYLOAD_LENGTH,
+    PTP_REPLY_PARAMETERS_START, /* the Response's parameters, of four bytes each */
+    PTP_REPLY_PARAMETERS_COUNT,
+    PTP_REPLY_NUMBERS /* 6 */
+};
+
+/* The same answer, with the Response's parameters. Numbers: ptp_reply_number. Refusals: those of ptp_find_answer. */
+int64_t ptp_find_response(const uint8_t *s, size_t s_len, uint32_t number, uint64_t *out, size_t out_len);
 
 /* How many bytes the answer to the command of this number still needs: the least that must follow before anything can be said of it. 0 exactly
  * where ptp_find_answer answers, or refuses with none of END, SIZE and NOPHASE. It refuses nothing. */
@@ -528,8 +540,7 @@ static inline int64_t ptp_objects_begin(struct ptp_objects *o, uint32_t handle, 
     return end < 0 ? end : 0;
 }
 
-/* Each function of a table for one in one piece: it answers the same, and keeps the new count. Only the two of all paths answer how many paths
- * there are, each with its end in the bytes and its place in the table, `room` of both. Plain C. */
+/* Each function of a table for one in one piece: it answers the same, and keeps the new count. Plain C. */
 static inline int64_t ptp_objects_walk(const struct ptp_objects *o, uint16_t *places, size_t places_len)
 {
     return ptp_walk(o->handles, PTP_PLACES, o->parents, PTP_PLACES, o->ends, PTP_PLACES, o->marks, PTP_PLACES, o->count, o->names,
@@ -542,12 +553,10 @@ static inline int64_t ptp_objects_path(const struct ptp_objects *o, size_t place
                     o->names_len, place, out, out_len);
 }
 
-static inline int64_t ptp_objects_paths(const struct ptp_objects *o, uint8_t *out, size_t out_len, uint32_t *out_ends, uint16_t *places,
-                                        size_t room)
+static inline int64_t ptp_objects_paths(const struct ptp_objects *o, uint8_t *out, size_t out_len, uint32_t *out_ends, size_t out_ends_len)
 {
-    int64_t len = ptp_paths(o->handles, PTP_PLACES, o->parents, PTP_PLACES, o->ends, PTP_PLACES, o->marks, PTP_PLACES, o->count, o->names,
-                            o->names_len, out, out_len, out_ends, room);
-    return len < 0 ? len : ptp_objects_walk(o, places, room); /* as many places as ends: there is room for both or for neither */
+    return ptp_paths(o->handles, PTP_PLACES, o->parents, PTP_PLACES, o->ends, PTP_PLACES, o->marks, PTP_PLACES, o->count, o->names,
+                     o->names_len, out, out_len, out_ends, out_ends_len);
 }
 
 static inline int64_t ptp_objects_folders(const struct ptp_objects *o, uint16_t *places, size_t places_len)
@@ -556,11 +565,26 @@ static inline int64_t ptp_objects_folders(const struct ptp_objects *o, uint16_t 
                        o->names_len, places, places_len);
 }
 
-static inline int64_t ptp_objects_folder_paths(const struct ptp_objects *o, uint8_t *out, size_t out_len, uint32_t *out_ends, uint16_t *places,
+static inline int64_t ptp_objects_folder_paths(const struct ptp_objects *o, uint8_t *out, size_t out_len, uint32_t *out_ends,
+                                               size_t out_ends_len)
+{
+    return ptp_folder_paths(o->handles, PTP_PLACES, o->parents, PTP_PLACES, o->ends, PTP_PLACES, o->marks, PTP_PLACES, o->count, o->names,
+                            o->names_len, out, out_len, out_ends, out_ends_len);
+}
+
+/* All paths, each with its place: answers how many there are, each with its end in the bytes and its place in the table, `room` of both. */
+static inline int64_t ptp_objects_placed_paths(const struct ptp_objects *o, uint8_t *out, size_t out_len, uint32_t *out_ends, uint16_t *places,
                                                size_t room)
 {
-    int64_t len = ptp_folder_paths(o->handles, PTP_PLACES, o->parents, PTP_PLACES, o->ends, PTP_PLACES, o->marks, PTP_PLACES, o->count,
-                                   o->names, o->names_len, out, out_len, out_ends, room);
+    int64_t len = ptp_objects_paths(o, out, out_len, out_ends, room);
+    return len < 0 ? len : ptp_objects_walk(o, places, room); /* as many places as ends: there is room for both or for neither */
+}
+
+/* The same of the folder view. */
+static inline int64_t ptp_objects_placed_folder_paths(const struct ptp_objects *o, uint8_t *out, size_t out_len, uint32_t *out_ends,
+                                                      uint16_t *places, size_t room)
+{
+    int64_t len = ptp_objects_folder_paths(o, out, out_len, out_ends, room);
     return len < 0 ? len : ptp_objects_folders(o, places, room);
 }
 

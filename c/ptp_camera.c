@@ -122,11 +122,11 @@ static void tell_events(const struct ptp_camera *c, const uint8_t *s, size_t len
 static void fill_reply(struct ptp_reply *reply, const uint8_t *s, size_t len, const uint64_t *found)
 {
     uint64_t words[5];
-    size_t count = found[PTP_ANSWER_PARAMETERS_COUNT] < 5 ? found[PTP_ANSWER_PARAMETERS_COUNT] : 5;
-    reply->code = (uint16_t)found[PTP_ANSWER_CODE];
-    reply->payload = s + found[PTP_ANSWER_PAYLOAD_START];
-    reply->payload_len = found[PTP_ANSWER_PAYLOAD_LENGTH];
-    int64_t given = ptp_list_numbers(s, len, found[PTP_ANSWER_PARAMETERS_START], PTP_UINT32, count, words, 5);
+    size_t count = found[PTP_REPLY_PARAMETERS_COUNT] < 5 ? found[PTP_REPLY_PARAMETERS_COUNT] : 5;
+    reply->code = (uint16_t)found[PTP_REPLY_CODE];
+    reply->payload = s + found[PTP_REPLY_PAYLOAD_START];
+    reply->payload_len = found[PTP_REPLY_PAYLOAD_LENGTH];
+    int64_t given = ptp_list_numbers(s, len, found[PTP_REPLY_PARAMETERS_START], PTP_UINT32, count, words, 5);
     reply->parameter_count = given < 0 ? 0 : (size_t)given;
     for (size_t n = 0; n < reply->parameter_count; n++)
         reply->parameters[n] = (uint32_t)words[n];
@@ -137,10 +137,10 @@ static enum ptp_outcome take_reply(struct ptp_camera *c, uint32_t number, struct
 {
     const uint8_t *s = c->came + c->came_start;
     size_t len = c->came_end - c->came_start;
-    uint64_t found[PTP_ANSWER_NUMBERS];
-    int64_t answer = ptp_find_answer(s, len, number, found, PTP_ANSWER_NUMBERS);
+    uint64_t found[PTP_REPLY_NUMBERS];
+    int64_t answer = ptp_find_response(s, len, number, found, PTP_REPLY_NUMBERS);
     if (answer >= 0)
-        len = events_end(s, len, found[PTP_ANSWER_NEXT]);
+        len = events_end(s, len, found[PTP_REPLY_NEXT]);
     c->came_start += len;
     /* what the camera sent in an answer's place is heard too */
     int64_t heard = c->listener.received ? c->listener.received(c->listener.self, s, len) : 0;

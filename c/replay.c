@@ -179,7 +179,7 @@ static void set_value(bool book, uint32_t state, const char *description, const 
 static void answer(const uint8_t *s, size_t len, uint32_t number)
 {
     uint64_t x[PTP_ANSWER_NUMBERS];
-    if (!gave(ptp_find_answer(s, len, number, x, PTP_ANSWER_NUMBERS), 6))
+    if (!gave(ptp_find_answer(s, len, number, x, PTP_ANSWER_NUMBERS), 4))
         return;
     if (x[PTP_ANSWER_CODE] == PTP_RESPONSE_OK) {
         printf("ok data");
@@ -198,8 +198,8 @@ static void last_data(const uint8_t *s, size_t len, uint64_t end, uint64_t *data
     uint64_t x[PTP_CONTAINER_NUMBERS];
     for (size_t at = 0; at < end && ptp_read_container(s, len, at, x, PTP_CONTAINER_NUMBERS) > 0; at = x[PTP_CONTAINER_NEXT])
         if (x[PTP_CONTAINER_KIND] == PTP_CONTAINER_DATA) {
-            data[PTP_ANSWER_PAYLOAD_START] = x[PTP_CONTAINER_PAYLOAD_START];
-            data[PTP_ANSWER_PAYLOAD_LENGTH] = x[PTP_CONTAINER_PAYLOAD_LENGTH];
+            data[PTP_REPLY_PAYLOAD_START] = x[PTP_CONTAINER_PAYLOAD_START];
+            data[PTP_REPLY_PAYLOAD_LENGTH] = x[PTP_CONTAINER_PAYLOAD_LENGTH];
         }
 }
 
@@ -207,21 +207,21 @@ static void last_data(const uint8_t *s, size_t len, uint64_t end, uint64_t *data
  * is told: it is looked for here. */
 static void response(const uint8_t *s, size_t len, uint32_t number)
 {
-    uint64_t x[PTP_ANSWER_NUMBERS];
-    if (!gave(ptp_find_answer(s, len, number, x, PTP_ANSWER_NUMBERS), 6))
+    uint64_t x[PTP_REPLY_NUMBERS];
+    if (!gave(ptp_find_response(s, len, number, x, PTP_REPLY_NUMBERS), 6))
         return;
-    uint64_t data[PTP_ANSWER_NUMBERS] = {0, 0, x[PTP_ANSWER_PAYLOAD_START], x[PTP_ANSWER_PAYLOAD_LENGTH], 0, 0};
-    if (x[PTP_ANSWER_CODE] != PTP_RESPONSE_OK)
-        last_data(s, len, x[PTP_ANSWER_PARAMETERS_START] - 12, data);
-    uint64_t size = x[PTP_ANSWER_NEXT] - x[PTP_ANSWER_PARAMETERS_START];
+    uint64_t data[PTP_REPLY_NUMBERS] = {0, 0, x[PTP_REPLY_PAYLOAD_START], x[PTP_REPLY_PAYLOAD_LENGTH], 0, 0};
+    if (x[PTP_REPLY_CODE] != PTP_RESPONSE_OK)
+        last_data(s, len, x[PTP_REPLY_PARAMETERS_START] - 12, data);
+    uint64_t size = x[PTP_REPLY_NEXT] - x[PTP_REPLY_PARAMETERS_START];
     printf("ok");
-    print_number(x[PTP_ANSWER_CODE]);
-    print_number(x[PTP_ANSWER_PARAMETERS_START]);
+    print_number(x[PTP_REPLY_CODE]);
+    print_number(x[PTP_REPLY_PARAMETERS_START]);
     print_number(size);
-    print_number(data[PTP_ANSWER_PAYLOAD_START]);
-    print_number(data[PTP_ANSWER_PAYLOAD_LENGTH]);
-    print_number(x[PTP_ANSWER_NEXT]);
-    if (x[PTP_ANSWER_PARAMETERS_COUNT] != size / 4)
+    print_number(data[PTP_REPLY_PAYLOAD_START]);
+    print_number(data[PTP_REPLY_PAYLOAD_LENGTH]);
+    print_number(x[PTP_REPLY_NEXT]);
+    if (x[PTP_REPLY_PARAMETERS_COUNT] != size / 4)
         printf(" ?");
 }
 

@@ -113,22 +113,15 @@ static int64_t folders(const struct asked *t)
     return t->whole ? ptp_objects_folders(t->whole, places, PTP_PLACES) : ptp_folders(LENT(t), places, PTP_PLACES);
 }
 
-/* A table in one piece tells how many paths there are, and the last end is how many bytes. */
-static int64_t bytes_of(int64_t count)
-{
-    return count < 0 ? count : (int64_t)stops[count - 1];
-}
-
 static int64_t folder_paths(const struct asked *t, size_t room)
 {
-    return t->whole ? bytes_of(ptp_objects_folder_paths(t->whole, second, room, stops, places, PTP_PLACES))
+    return t->whole ? ptp_objects_folder_paths(t->whole, second, room, stops, PTP_PLACES)
                     : ptp_folder_paths(LENT(t), second, room, stops, PTP_PLACES);
 }
 
 static int64_t paths(const struct asked *t, size_t room)
 {
-    return t->whole ? bytes_of(ptp_objects_paths(t->whole, second, room, stops, places, PTP_PLACES))
-                    : ptp_paths(LENT(t), second, room, stops, PTP_PLACES);
+    return t->whole ? ptp_objects_paths(t->whole, second, room, stops, PTP_PLACES) : ptp_paths(LENT(t), second, room, stops, PTP_PLACES);
 }
 
 /* All paths, by one of the three that give them. */

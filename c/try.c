@@ -131,8 +131,11 @@ static void try_builder(void)
     const struct ptp_object late[] = {{8, 7, name, 5}, {7, 0, name, 5}}, orphan[] = {{1, 5, name, 5}};
     const struct ptp_object circle[] = {{4, 0, name, 5}, {1, 2, name, 5}, {2, 1, name, 5}}, twice[] = {{4, 0, name, 5}, {4, 0, name, 5}};
     const struct ptp_object cut[] = {{4, 0, name, 3}};
-    CHECK(build(late, 2, &table, &handle) == PTP_BUILT && ptp_objects_paths(&table, came, 4, ends, places, 3) == 3);
-    CHECK(memcmp(came, "AA/A", 4) == 0 && table.handles[places[2]] == 8 && ptp_objects_folder_paths(&table, came, 4, ends, places, 2) < 0);
+    CHECK(build(late, 2, &table, &handle) == PTP_BUILT && ptp_objects_placed_paths(&table, came, 4, ends, places, 3) == 3);
+    CHECK(memcmp(came, "AA/A", 4) == 0 && table.handles[places[2]] == 8);
+    CHECK(ptp_objects_placed_folder_paths(&table, came, 4, ends, places, 2) < 0);
+    CHECK(ptp_objects_placed_folder_paths(&table, came, 4, ends, places, 3) == 3 && table.handles[places[2]] == 8);
+    CHECK(ptp_objects_paths(&table, came, 4, ends, 3) == 4 && ptp_objects_folder_paths(&table, came, 4, ends, 3) == 4);
     CHECK(build(orphan, 1, &table, &handle) == PTP_BUILT_ORPHAN && handle == 1 && table.count == 1);
     CHECK(build(circle, 3, &table, &handle) == PTP_BUILT_CIRCLE && (handle == 1 || handle == 2));
     CHECK(build(twice, 2, &table, &handle) == PTP_BUILT_TWICE && handle == 4);

@@ -124,14 +124,14 @@ class Response:
 
 
 Answer = Union[Data, Response]
-ANSWER_NUMBERS = 6
+RESPONSE_NUMBERS = 6
 
 
 def find_answer(containers: archive.Bytes, number: int) -> Tuple[Answer, int]:
     """The answer to the command of this number, in containers that lie end to end; and the place after it. Refusals, container by container: END,
     KIND, LENGTH, SIZE, TID; NOPHASE where the bytes end at a container's start."""
     containers = bytes(containers)
-    after, code, start, length, params, count = archive.numbers("ptp_find_answer", ANSWER_NUMBERS, containers, number)
+    after, code, start, length, params, count = archive.numbers("ptp_find_response", RESPONSE_NUMBERS, containers, number)
     told = items_of(UINT32, containers, params, count)
     return (Data(start, containers[start:start + length], told) if code == OK else Response(code, told)), after
 

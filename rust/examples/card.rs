@@ -60,9 +60,9 @@ fn delete(objects: &mut Objects, handle: u32) -> Result<(), Refusal> {
 }
 
 fn show_paths(objects: &Objects) -> Result<(), Refusal> {
-    let (mut text, mut ends, mut places) = ([0; TEXT_ROOM], [0; ObjectTable::PLACES], [0; ObjectTable::PLACES]);
-    for (handle, path) in objects.paths(&mut text, &mut ends, &mut places)? {
-        println!("path /{path} of {handle}");
+    let (mut text, mut ends) = ([0; TEXT_ROOM], [0; ObjectTable::PLACES]);
+    for path in objects.paths(&mut text, &mut ends)? {
+        println!("path /{path}");
     }
     Ok(())
 }
@@ -70,7 +70,7 @@ fn show_paths(objects: &Objects) -> Result<(), Refusal> {
 // How deep a place is shown is the number of its parents; its name is the end of its path.
 fn show_folders(objects: &Objects) -> Result<(), Refusal> {
     let (mut text, mut ends, mut places) = ([0; TEXT_ROOM], [0; ObjectTable::PLACES], [0; ObjectTable::PLACES]);
-    let paths = objects.folder_paths(&mut text, &mut ends, &mut places)?;
+    let paths = objects.placed_folder_paths(&mut text, &mut ends, &mut places)?;
     for (&place, (_, path)) in paths.places().iter().zip(paths) {
         println!("{:1$}{2}", "", 2 * depth(objects, place), path.rsplit('/').next().unwrap_or(path));
     }

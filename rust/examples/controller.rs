@@ -6,33 +6,59 @@
 mod day;
 
 use ptp_proved::*;
-use std::iter::Peekable;
 use std::process::ExitCode;
 
-/// The records of a day that are still to come.
-struct Recorded<'a>(Peekable<Records<'a>>);
+/// The records of a day that are still to come. They are read one by one, so that what stands before damage is still answered.
+struct Recorded<'a> {
+    day: &'a [u8],
+}
+
+impl<'a> Recorded<'a> {
+    fn peek(&self) -> Result<Option<(PtpRecord<'a>, &'a [u8])>, String> {
+        if self.day.is_empty() {
+            return Ok(None);
+        }
+        let (record, taken) = read_record(self.day).map_err(refused)?;
+        Ok(Some((record, &self.day[taken..])))
+    }
+}
+
+fn refused(why: Refusal) -> String {
+    format!("refusal {}: {why}", why.number())
+}
 
 impl Transport for Recorded<'_> {
     type Error = String;
 
     /// The next container to the camera must be this one; notes are passed over.
     fn send(&mut self, container: &[u8]) -> Result<(), String> {
-        let next = self.0.find(|record| record.kind != RecordKind::Note);
-        match next {
-            Some(record) if record.kind == RecordKind::ToCamera && record.body == container => Ok(()),
-            _ => Err(day::UNEXPECTED.into()),
+        while let Some((record, rest)) = self.peek()? {
+            self.day = rest;
+            if record.kind == RecordKind::ToCamera && record.body == container {
+                return Ok(());
+            }
+            if record.kind != RecordKind::Note {
+                break;
+            }
         }
+        Err(day::UNEXPECTED.into())
     }
 
-    /// Of the containers that come until the next one to the camera, as many as there is room for.
+    /// Of the containers that come until the next one to the camera, as many as there is room for. Where none is left, no Response comes.
     fn receive(&mut self, buffer: &mut [u8]) -> Result<usize, String> {
         let mut held = 0;
-        while let Some(record) = self.0.next_if(|next| next.kind != RecordKind::ToCamera && next.body.len() <= buffer.len() - held)
-        {
+        while let Some((record, rest)) = self.peek()? {
+            if record.kind == RecordKind::ToCamera || record.body.len() > buffer.len() - held {
+                break;
+            }
+            self.day = rest;
             if record.kind == RecordKind::FromCamera {
                 buffer[held..held + record.body.len()].copy_from_slice(record.body);
                 held += record.body.len();
             }
+        }
+        if held == 0 {
+            return Err(refused(Refusal::NOPHASE));
         }
         Ok(held)
     }
@@ -40,16 +66,13 @@ impl Transport for Recorded<'_> {
 
 fn main() -> ExitCode {
     let words: Vec<_> = std::env::args().skip(1).collect();
-    if words.len() != 2 {
-        eprintln!("controller CAMERA OUT");
-        return ExitCode::from(2);
-    }
-    let day = std::fs::read(&words[0]).expect("the camera's recording");
-    match records(&day) {
-        Ok(each) => day::run(Recorded(each.peekable()), &words[1]),
-        Err(why) => {
-            eprintln!("refusal {}: {why}", why.number());
-            ExitCode::FAILURE
+    let (camera, out) = match &words[..] {
+        [camera, out] => (camera, out),
+        _ => {
+            eprintln!("controller CAMERA OUT");
+            return ExitCode::from(2);
         }
-    }
+    };
+    let day = std::fs::read(camera).expect("the camera's recording");
+    day::run(Recorded { day: &day }, out)
 }

@@ -143,6 +143,7 @@ extern "C" {
         out_len: usize,
     ) -> i64;
     fn ptp_find_answer(s: *const u8, s_len: usize, number: u32, out: *mut u64, out_len: usize) -> i64;
+    fn ptp_find_response(s: *const u8, s_len: usize, number: u32, out: *mut u64, out_len: usize) -> i64;
     fn ptp_needed(s: *const u8, s_len: usize, number: u32) -> i64;
     fn ptp_units(s: *const u8, s_len: usize, at: usize, out: *mut u16, out_len: usize) -> i64;
     fn ptp_list_numbers(s: *const u8, s_len: usize, at: usize, code: u16, count: usize, out: *mut u64, out_len: usize) -> i64;
@@ -732,9 +733,15 @@ pub(crate) fn set_value(
     Ok((count, end))
 }
 
-pub(crate) fn find_answer(s: &[u8], number: u32) -> Result<[u64; 6], Refusal> {
-    let mut out = [0; 6];
+pub(crate) fn find_answer(s: &[u8], number: u32) -> Result<[u64; 4], Refusal> {
+    let mut out = [0; 4];
     told(unsafe { ptp_find_answer(s.as_ptr(), s.len(), number, out.as_mut_ptr(), out.len()) })?;
+    Ok(out)
+}
+
+pub(crate) fn find_response(s: &[u8], number: u32) -> Result<[u64; 6], Refusal> {
+    let mut out = [0; 6];
+    told(unsafe { ptp_find_response(s.as_ptr(), s.len(), number, out.as_mut_ptr(), out.len()) })?;
     Ok(out)
 }
 

@@ -200,14 +200,14 @@ impl OwnedTable {
     /// Every object's handle and path, in walk order: by depth.
     pub fn paths(&self) -> Vec<(u32, String)> {
         let (mut out, mut ends, mut places) = self.room();
-        let paths = self.table().paths(&mut out, &mut ends, &mut places).expect(KEPT);
+        let paths = self.table().placed_paths(&mut out, &mut ends, &mut places).expect(KEPT);
         paths.iter().map(|(handle, path)| (handle, path.into())).collect()
     }
 
     /// The same as a folder view: each folder, then all below it, before the next one at its level.
     pub fn folder_paths(&self) -> Vec<(u32, String)> {
         let (mut out, mut ends, mut places) = self.room();
-        let paths = self.table().folder_paths(&mut out, &mut ends, &mut places).expect(KEPT);
+        let paths = self.table().placed_folder_paths(&mut out, &mut ends, &mut places).expect(KEPT);
         paths.iter().map(|(handle, path)| (handle, path.into())).collect()
     }
 

@@ -238,7 +238,7 @@ impl<T: Transport, L: Listener> Camera<T, L> {
     fn take_reply(&mut self, number: u32) -> Result<Reply, Fault<T::Error>> {
         let mut containers = core::mem::take(&mut self.came);
         let heard = |listener: &mut L, bytes: &[u8]| listener.received(bytes);
-        let [next, code, start, length, params, count] = match archive::find_answer(&containers, number) {
+        let [next, code, start, length, params, count] = match archive::find_response(&containers, number) {
             Ok(numbers) => numbers.map(|number| number as usize),
             Err(why) => {
                 // what the camera sent in its place is still heard

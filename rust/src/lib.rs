@@ -69,9 +69,9 @@ pub use record::{
 };
 pub use refusal::Refusal;
 pub use session::{find_answer, find_response, needed, Answer, Made, PtpResponse, Session};
-pub use settings::{write_entry, Edition, Entries, Kept, Serial, Setting, Settings};
+pub use settings::{entry_bytes, write_entry, Edition, Entries, Kept, Serial, Setting, Settings};
 pub use text::{utf8, utf8_len, Chars, PtpString};
-pub use tree::{EachPath, ObjectTable, Paths};
+pub use tree::{EachPath, EachPlacedPath, ObjectTable, Paths, PlacedPaths};
 pub use value::{PtpDataType, PtpValue};
 pub use writer::{tidy_device, tidy_object, tidy_storage, tidy_value, write_array, write_str, write_text};
 

@@ -2,7 +2,7 @@
 use crate::archive;
 use crate::changes::{Added, ObjectTableMut};
 use crate::refusal::Refusal;
-use crate::tree::{ObjectTable, Paths};
+use crate::tree::{ObjectTable, Paths, PlacedPaths};
 
 /// The links of an [`ObjectTable`]: two lists of 1,024 places. Of a live place `first` is its lowest live child, `next` the next higher live place
 /// with the same parent; 0 is none. All else is 0, so a table has one pair of links. [`Objects`](crate::Objects) keeps them by itself.
@@ -49,13 +49,19 @@ impl<'a> ObjectTable<'a> {
     }
 
     /// As [`paths`](Self::paths), along the links. Refusal too: TABLE where they are not the table's own.
-    pub fn linked_paths<'o>(
+    pub fn linked_paths<'o>(&self, links: Links<'_>, out: &'o mut [u8], out_ends: &'o mut [u32]) -> Result<Paths<'o>, Refusal> {
+        let count = archive::linked_paths(self, links, out, out_ends)?;
+        Ok(Paths::new(&out[..count], &out_ends[..self.live_count()]))
+    }
+
+    /// As [`placed_paths`](Self::placed_paths), along the links. Refusal too: TABLE where they are not the table's own.
+    pub fn placed_linked_paths<'o>(
         &self,
         links: Links<'_>,
         out: &'o mut [u8],
         out_ends: &'o mut [u32],
         places: &'o mut [u16],
-    ) -> Result<Paths<'o>, Refusal>
+    ) -> Result<PlacedPaths<'o>, Refusal>
     where
         'a: 'o,
     {
@@ -63,7 +69,7 @@ impl<'a> ObjectTable<'a> {
             |places: &mut [u16]| archive::linked_walk(self, links, places),
             |out: &mut [u8], ends: &mut [u32]| archive::linked_paths(self, links, out, ends),
         );
-        self.paths_in(orders, out, out_ends, places)
+        self.placed_in(orders, out, out_ends, places)
     }
 }
 

@@ -3,7 +3,7 @@ use crate::changes::{Added, ObjectTableMut};
 use crate::links::{Links, LinksMut};
 use crate::reader::PtpReader;
 use crate::refusal::Refusal;
-use crate::tree::{ObjectTable, Paths};
+use crate::tree::{ObjectTable, Paths, PlacedPaths};
 use core::fmt;
 
 /// The objects of a card: up to 1,024 of them, with their names in bytes that are lent. It is 17 KB, and nothing is allocated.
@@ -90,9 +90,19 @@ impl<'n> Objects<'n> {
         self.table().linked_walk(self.links(), places)
     }
 
-    /// All paths in walk order, with their handles: [`ObjectTable::paths`]. Refusal: ROOM for any of the three.
-    pub fn paths<'o>(&'o self, out: &'o mut [u8], out_ends: &'o mut [u32], places: &'o mut [u16]) -> Result<Paths<'o>, Refusal> {
-        self.table().linked_paths(self.links(), out, out_ends, places)
+    /// All paths in walk order: [`ObjectTable::paths`]. Refusal: ROOM for either output.
+    pub fn paths<'o>(&self, out: &'o mut [u8], out_ends: &'o mut [u32]) -> Result<Paths<'o>, Refusal> {
+        self.table().linked_paths(self.links(), out, out_ends)
+    }
+
+    /// The same with their handles: [`ObjectTable::placed_paths`]. Refusal: ROOM for any of the three.
+    pub fn placed_paths<'o>(
+        &'o self,
+        out: &'o mut [u8],
+        out_ends: &'o mut [u32],
+        places: &'o mut [u16],
+    ) -> Result<PlacedPaths<'o>, Refusal> {
+        self.table().placed_linked_paths(self.links(), out, out_ends, places)
     }
 
     /// The places of the objects as a folder view: [`ObjectTable::folders`]. Refusal: ROOM.
@@ -100,14 +110,19 @@ impl<'n> Objects<'n> {
         self.table().folders(places)
     }
 
-    /// All paths of the folder view, with their handles: [`ObjectTable::folder_paths`]. Refusal: ROOM for any of the three.
-    pub fn folder_paths<'o>(
+    /// All paths of the folder view: [`ObjectTable::folder_paths`]. Refusal: ROOM for either output.
+    pub fn folder_paths<'o>(&self, out: &'o mut [u8], out_ends: &'o mut [u32]) -> Result<Paths<'o>, Refusal> {
+        self.table().folder_paths(out, out_ends)
+    }
+
+    /// The same with their handles: [`ObjectTable::placed_folder_paths`]. Refusal: ROOM for any of the three.
+    pub fn placed_folder_paths<'o>(
         &'o self,
         out: &'o mut [u8],
         out_ends: &'o mut [u32],
         places: &'o mut [u16],
-    ) -> Result<Paths<'o>, Refusal> {
-        self.table().folder_paths(out, out_ends, places)
+    ) -> Result<PlacedPaths<'o>, Refusal> {
+        self.table().placed_folder_paths(out, out_ends, places)
     }
 
     /// The place of the live object of this handle; of several, the first.

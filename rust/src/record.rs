@@ -86,8 +86,9 @@ pub fn write_record<'o>(kind: u16, body: &[u8], out: &'o mut [u8]) -> Result<&'o
 
 /// A recording in a lent buffer, to which what was sent and received is added.
 ///
-/// A container of more than 65,000 bytes, as a picture's, is no record: it is left out and counted, and the Command before it and the Response
-/// behind it are kept. A day with pictures is kept by its recording and the pictures' own files.
+/// A container of more than 65,000 bytes, as a picture's, is no record: it is refused with LONG, unless the recorder was made by
+/// [`leaving_out`](Self::leaving_out). Then it is left out and counted, and the Command before it and the Response behind it are kept: a day
+/// with pictures is kept by its recording and the pictures' own files.
 ///
 /// ```
 /// use ptp_proved::{Recorder, Session};
@@ -96,16 +97,18 @@ pub fn write_record<'o>(kind: u16, body: &[u8], out: &'o mut [u8]) -> Result<&'o
 /// let mut recorder = Recorder::new(&mut room);
 /// recorder.sent(session.open_session(&mut out)?)?;
 /// recorder.received(&[12, 0, 0, 0, 3, 0, 1, 0x20, 0, 0, 0, 0])?;
-/// assert_eq!((recorder.bytes().len(), recorder.left_out().containers), (30 + 18, 0));
+/// assert_eq!(recorder.bytes().len(), 30 + 18);
+/// assert_eq!(recorder.left_out().containers, 0);
 /// # Ok::<(), ptp_proved::Refusal>(())
 /// ```
 pub struct Recorder<'o> {
     room: &'o mut [u8],
     held: usize,
+    leaves_out: bool,
     left_out: LeftOut,
 }
 
-/// What a [`Recorder`] could not keep: containers of more than 65,000 bytes.
+/// What a [`Recorder::leaving_out`] could not keep: containers of more than 65,000 bytes.
 #[derive(Clone, Copy, Debug, Default, PartialEq, Eq, Hash)]
 pub struct LeftOut {
     /// how many
@@ -117,7 +120,24 @@ pub struct LeftOut {
 impl<'o> Recorder<'o> {
     /// An empty recording.
     pub fn new(room: &'o mut [u8]) -> Self {
-        Recorder { room, held: 0, left_out: LeftOut::default() }
+        Recorder { room, held: 0, leaves_out: false, left_out: LeftOut::default() }
+    }
+
+    /// An empty recording from which what is too long for a record is left out: LONG is no refusal then.
+    ///
+    /// ```
+    /// use ptp_proved::{write_container, LeftOut, Recorder, Refusal};
+    /// let mut out = vec![0; 65_001];
+    /// let picture = write_container(2, 0x1009, 0, &[0; 64_989], &mut out)?;
+    /// let (mut room, mut other) = ([0; 64], [0; 64]);
+    /// assert_eq!(Recorder::new(&mut room).received(picture), Err(Refusal::LONG));
+    /// let mut recorder = Recorder::leaving_out(&mut other);
+    /// recorder.received(picture)?;
+    /// assert_eq!(recorder.left_out(), LeftOut { containers: 1, bytes: 65_001 });
+    /// # Ok::<(), ptp_proved::Refusal>(())
+    /// ```
+    pub fn leaving_out(room: &'o mut [u8]) -> Self {
+        Recorder { leaves_out: true, ..Recorder::new(room) }
     }
 
     /// All records, end to end.
@@ -135,22 +155,25 @@ impl<'o> Recorder<'o> {
         self.left_out
     }
 
-    /// What was sent: a record of the Command, and one of its Data. Refusal: ROOM; then neither is kept.
+    /// What was sent: a record of the Command, and one of its Data. Refusals: LONG, ROOM; then neither is kept.
     pub fn sent(&mut self, made: Made<'_>) -> Result<(), Refusal> {
-        self.add_all(RecordKind::ToCamera, made.bytes)
+        let before = (self.held, self.left_out);
+        self.add(RecordKind::ToCamera, made.command())?;
+        if made.data().is_empty() {
+            return Ok(());
+        }
+        self.add(RecordKind::ToCamera, made.data()).map_err(|why| {
+            (self.held, self.left_out) = before;
+            why
+        })
     }
 
     /// Containers that were received, end to end: a record of each. Refusals: those of the first that is refused; then none is kept.
     pub fn received(&mut self, containers: &[u8]) -> Result<(), Refusal> {
-        self.add_all(RecordKind::FromCamera, containers)
-    }
-
-    fn add_all(&mut self, kind: RecordKind, containers: &[u8]) -> Result<(), Refusal> {
-        let before = (self.held, self.left_out);
-        let mut at = 0;
+        let (before, mut at) = ((self.held, self.left_out), 0);
         while at < containers.len() {
             let added = read_container(containers, at).and_then(|(_, next)| {
-                self.add(kind, &containers[at..next])?;
+                self.add(RecordKind::FromCamera, &containers[at..next])?;
                 Ok(next)
             });
             match added {
@@ -167,7 +190,7 @@ impl<'o> Recorder<'o> {
     fn add(&mut self, kind: RecordKind, container: &[u8]) -> Result<(), Refusal> {
         match archive::write_record(kind as u16, container, &mut self.room[self.held..]) {
             Ok(length) => self.held += length,
-            Err(Refusal::LONG) => {
+            Err(Refusal::LONG) if self.leaves_out => {
                 self.left_out.containers += 1;
                 self.left_out.bytes += container.len() as u64;
             }

@@ -261,7 +261,7 @@ pub enum Answer<'a> {
 /// The answer to the command of this number, in containers that lie end to end from the start of these bytes; and the place after it.
 /// Refusals, container by container: END, KIND, LENGTH, SIZE, TID; NOPHASE where the bytes end at a container's start.
 pub fn find_answer(s: &[u8], number: u32) -> Result<(Answer<'_>, usize), Refusal> {
-    let [next, code, start, length, ..] = archive::find_answer(s, number)?;
+    let [next, code, start, length] = archive::find_answer(s, number)?;
     let answer = match code as u16 {
         StandardResponseCode::Ok => Answer::Data { start: start as usize, payload: Row::new(s, &[start, length]).part() },
         other => Answer::Response(other),
@@ -289,7 +289,7 @@ pub struct PtpResponse<'a> {
 
 /// The same search as [`find_answer`]'s, with the same refusals.
 pub fn find_response(s: &[u8], number: u32) -> Result<(PtpResponse<'_>, usize), Refusal> {
-    let [next, code, _, _, start, count] = archive::find_answer(s, number)?.map(|number| number as usize);
+    let [next, code, _, _, start, count] = archive::find_response(s, number)?.map(|number| number as usize);
     let parameters = PtpArray::new(&s[start..start + 4 * count]);
     Ok((PtpResponse { code: code as u16, parameters, start }, next))
 }

@@ -8,9 +8,9 @@ use crate::value::PtpValue;
 /// Which entries a row may have: the first edition only those for any camera, the second also those for the camera of one serial.
 ///
 /// ```
-/// use ptp_proved::{write_entry, Edition, Refusal, Settings};
+/// use ptp_proved::{entry_bytes, Edition, Refusal, Settings};
 /// let mut out = [0; 32];
-/// let entry = write_entry(6, 0x5001, Some(&[0x30u16]), 2, &[50], &mut out)?;
+/// let entry = entry_bytes(6, 0x5001, Some(&[0x30]), 2, &[50], &mut out)?;
 /// assert_eq!(Settings::read(Edition::One, entry), Err(Refusal::EDITION));
 /// assert_eq!(Settings::read(Edition::Two, entry)?.len(), 1);
 /// # Ok::<(), ptp_proved::Refusal>(())
@@ -32,9 +32,9 @@ impl Edition {
 /// An entry as it lies in its row.
 ///
 /// ```
-/// use ptp_proved::{write_entry, Edition, Serial, Settings};
+/// use ptp_proved::{entry_bytes, Edition, Settings};
 /// let mut out = [0; 32];
-/// let row = write_entry(6, 0x5001, Some(&[0x30u16]), 2, &[50], &mut out)?;
+/// let row = entry_bytes(6, 0x5001, Some(&[0x30]), 2, &[50], &mut out)?;
 /// let setting = Settings::read(Edition::Two, row)?.iter().next().unwrap();
 /// assert_eq!((setting.property, setting.serial.unwrap() == "0", setting.value.to_string()), (0x5001, true, "50".into()));
 /// # Ok::<(), ptp_proved::Refusal>(())
@@ -55,6 +55,7 @@ pub struct Setting<'a> {
 
 // The kind of an entry for the camera of one serial.
 const FOR_ONE: u16 = 17;
+const FOR_ANY: u16 = 16;
 
 // The entry that starts at a place, from its numbers; the place after it comes first.
 fn setting(row: &[u8], start: usize, numbers: [u64; 9]) -> Setting<'_> {
@@ -77,10 +78,10 @@ fn setting(row: &[u8], start: usize, numbers: [u64; 9]) -> Setting<'_> {
 /// What is kept of a property.
 ///
 /// ```
-/// use ptp_proved::{write_entry, Edition, Serial, Settings};
+/// use ptp_proved::{entry_bytes, Edition, Settings};
 /// let mut out = [0; 32];
-/// let row = write_entry(6, 0x5001, None::<Serial>, 2, &[50], &mut out)?;
-/// let kept = Settings::read(Edition::Two, row)?.find(6, 0x5001, &[0x30u16]).unwrap();
+/// let row = entry_bytes(6, 0x5001, None, 2, &[50], &mut out)?;
+/// let kept = Settings::read(Edition::Two, row)?.find(6, 0x5001, &[0x30]).unwrap();
 /// assert_eq!((kept.is_own, kept.value.bytes()), (false, &[50][..]));
 /// # Ok::<(), ptp_proved::Refusal>(())
 /// ```
@@ -95,10 +96,10 @@ pub struct Kept<'a> {
 /// A row that was read whole: one entry for each key, at most 256.
 ///
 /// ```
-/// use ptp_proved::{write_entry, Edition, Serial, Settings};
+/// use ptp_proved::{entry_bytes, Edition, Settings};
 /// let (mut lent, mut out) = ([0; 32], [0; 32]);
-/// let settings = Settings::read(Edition::Two, &[])?.store(write_entry(6, 0x5001, None::<Serial>, 2, &[50], &mut lent)?, &mut out)?;
-/// assert_eq!((settings.len(), settings.find(6, 0x5001, &[0u16; 0]).is_some()), (1, true));
+/// let settings = Settings::read(Edition::Two, &[])?.store(entry_bytes(6, 0x5001, None, 2, &[50], &mut lent)?, &mut out)?;
+/// assert_eq!((settings.len(), settings.find(6, 0x5001, &[]).is_some()), (1, true));
 /// # Ok::<(), ptp_proved::Refusal>(())
 /// ```
 #[derive(Clone, Copy, Debug, PartialEq, Eq, Hash)]
@@ -138,16 +139,15 @@ impl<'a> Settings<'a> {
         Entries { settings: *self, place: 0, left: self.count }
     }
 
-    /// What is kept of a property: in edition 2 for the camera of this serial, as it stands in its device record or by its units, where there
-    /// is such an entry; else for any.
+    /// What is kept of a property: in edition 2 for the camera of this serial, by its units, where there is such an entry; else for any.
     ///
     /// Each call checks the whole row, as [`read`](Self::read) does: to look up many, go through [`iter`](Self::iter) once.
     ///
     /// ```
-    /// use ptp_proved::{write_entry, Edition, Serial, Settings};
+    /// use ptp_proved::{entry_bytes, Edition, Settings};
     /// let (mut any, mut own) = ([0; 32], [0; 32]);
-    /// let any = write_entry(6, 0x5001, None::<Serial>, 2, &[50], &mut any)?;
-    /// let own = write_entry(6, 0x5001, Some(&[0x30u16]), 2, &[60], &mut own)?;
+    /// let any = entry_bytes(6, 0x5001, None, 2, &[50], &mut any)?;
+    /// let own = entry_bytes(6, 0x5001, Some(&[0x30]), 2, &[60], &mut own)?;
     /// let row = [any, own].concat();
     /// let settings = Settings::read(Edition::Two, &row)?;
     /// let mut kept = std::collections::HashMap::new();
@@ -157,17 +157,31 @@ impl<'a> Settings<'a> {
     ///         kept.insert((entry.vendor, entry.property), entry.value);
     ///     }
     /// }
-    /// assert_eq!(kept[&(6, 0x5001)], settings.find(6, 0x5001, &[0x30u16]).unwrap().value);
+    /// assert_eq!(kept[&(6, 0x5001)], settings.find(6, 0x5001, &[0x30]).unwrap().value);
     /// # Ok::<(), ptp_proved::Refusal>(())
     /// ```
-    pub fn find<'s>(&self, vendor: u32, property: u16, serial: impl Into<Serial<'s>>) -> Option<Kept<'a>> {
-        let (serial, mut own) = (serial.into(), [0; 255]);
-        let found = archive::settings_find(self.edition.is_second(), self.row, vendor, property, serial.units(&mut own));
+    pub fn find(&self, vendor: u32, property: u16, serial: &[u16]) -> Option<Kept<'a>> {
+        let found = archive::settings_find(self.edition.is_second(), self.row, vendor, property, serial);
         let numbers = found.expect("the row was read whole")?;
         let mut numbers = Row::new(self.row, &numbers);
         let is_own = numbers.short() == FOR_ONE;
         let code = numbers.short();
         Some(Kept { is_own, value: PtpValue::new(code, numbers.part()) })
+    }
+
+    /// The same for a serial as it stands in a device record, or by its units.
+    ///
+    /// ```
+    /// use ptp_proved::{write_entry, Edition, PtpString, Settings};
+    /// let (mut lent, mut room) = ([0; 32], [0; 8]);
+    /// let serial = PtpString::write("0", &mut room)?;
+    /// let settings = Settings::read(Edition::Two, write_entry(6, 0x5001, Some(serial), 2, &[50], &mut lent)?)?;
+    /// assert_eq!(settings.find_for(6, 0x5001, serial), settings.find(6, 0x5001, &[0x30]));
+    /// # Ok::<(), ptp_proved::Refusal>(())
+    /// ```
+    pub fn find_for<'s>(&self, vendor: u32, property: u16, serial: impl Into<Serial<'s>>) -> Option<Kept<'a>> {
+        let (serial, mut own) = (serial.into(), [0; 255]);
+        self.find(vendor, property, serial.units(&mut own))
     }
 
     /// The row without the entry of this key, at the front of the output: the one for the camera of this serial, or without a serial the one for
@@ -195,8 +209,8 @@ impl<'a> Settings<'a> {
     }
 
     /// The row with this entry in place of the one that has its key, or last, at the front of the output. `entry` is an entry's bytes, as
-    /// [`write_entry`] lays them out; they are checked here. Refusals: the entry's own, as in a row, TRAIL also where bytes follow it;
-    /// FULL where 256 others are held; ROOM.
+    /// [`entry_bytes`] lays them out, and [`write_entry`] too; they are checked here. Refusals: the entry's own, as in a row, TRAIL also where
+    /// bytes follow it; FULL where 256 others are held; ROOM.
     ///
     /// Each call checks the whole row, and then the new one, as [`read`](Self::read) does.
     pub fn store<'o>(&self, entry: &[u8], out: &'o mut [u8]) -> Result<Settings<'o>, Refusal> {
@@ -226,9 +240,9 @@ impl<'a> IntoIterator for &Settings<'a> {
 /// A row's entries, one after the other.
 ///
 /// ```
-/// use ptp_proved::{write_entry, Edition, Serial, Settings};
+/// use ptp_proved::{entry_bytes, Edition, Settings};
 /// let mut out = [0; 32];
-/// let row = write_entry(6, 0x5001, None::<Serial>, 2, &[50], &mut out)?;
+/// let row = entry_bytes(6, 0x5001, None, 2, &[50], &mut out)?;
 /// let mut entries = Settings::read(Edition::One, row)?.into_iter();
 /// assert_eq!((entries.len(), entries.next().unwrap().vendor, entries.len()), (1, 6, 0));
 /// # Ok::<(), ptp_proved::Refusal>(())
@@ -260,6 +274,52 @@ impl<'a> Iterator for Entries<'a> {
 impl ExactSizeIterator for Entries<'_> {}
 
 impl core::iter::FusedIterator for Entries<'_> {}
+
+/// Lays the bytes of an entry out, for [`Settings::store`], which checks them: with the serial's units for one camera, without for any; the
+/// value's type and bytes. Refusals: COUNT for a serial of more than 254 units, or a length of more than four bytes, which the entry could not
+/// tell; ROOM.
+pub fn entry_bytes<'o>(
+    vendor: u32,
+    property: u16,
+    serial: Option<&[u16]>,
+    code: u16,
+    value: &[u8],
+    out: &'o mut [u8],
+) -> Result<&'o [u8], Refusal> {
+    let units = serial.unwrap_or(&[]);
+    if units.len() > 254 {
+        return Err(Refusal::COUNT);
+    }
+    let serial_length = match serial {
+        None => 0,
+        Some([]) => 1,
+        Some(units) => 3 + 2 * units.len(),
+    };
+    let length = 14 + serial_length + value.len();
+    let announced = u32::try_from(length).map_err(|_| Refusal::COUNT)?;
+    let lent = out.get_mut(..length).ok_or(Refusal::ROOM)?;
+    let mut at = 0;
+    let mut put = |bytes: &[u8]| {
+        lent[at..at + bytes.len()].copy_from_slice(bytes);
+        at += bytes.len();
+    };
+    put(&announced.to_le_bytes());
+    put(&if serial.is_some() { FOR_ONE } else { FOR_ANY }.to_le_bytes());
+    put(&vendor.to_le_bytes());
+    put(&property.to_le_bytes());
+    match serial {
+        None => {}
+        Some([]) => put(&[0]),
+        Some(units) => {
+            put(&[units.len() as u8 + 1]);
+            units.iter().for_each(|unit| put(&unit.to_le_bytes()));
+            put(&[0, 0]);
+        }
+    }
+    put(&code.to_le_bytes());
+    put(value);
+    Ok(&out[..length])
+}
 
 /// The bytes of an entry, for [`Settings::store`]: its one spelling, at the front of the output. With a serial it is for the camera of that
 /// serial, without one for any. Refusals: TEXT for a serial whose surrogates do not pair, COUNT for one of more than 254 units; RECORD where

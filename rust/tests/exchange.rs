@@ -166,12 +166,18 @@ fn a_recorder_listens_and_tells_what_it_left_out() {
     let picture = vec![0; 65_001 - 12];
     let transfers = [&data(0, &picture)[..], &response(0x2001, 0, &[]), &data(0, &picture[1..]), &response(0x2001, 0, &[])];
     let mut room = vec![0; 100_000];
-    let mut camera = Camera::new(Made::of(&transfers), Recorder::new(&mut room));
+    let mut camera = Camera::new(Made::of(&transfers), Recorder::leaving_out(&mut room));
     ask(&mut camera).unwrap();
     assert_eq!(camera.listener.left_out(), LeftOut { containers: 1, bytes: 65_001 });
     assert_eq!(records(camera.listener.bytes()).unwrap().map(|record| record.body.len()).collect::<Vec<_>>(), [16, 12]);
     ask(&mut camera).unwrap();
     assert_eq!((camera.listener.left_out().containers, records(camera.listener.bytes()).unwrap().len()), (1, 5));
+    // one that leaves nothing out refuses it, and keeps nothing of that answer
+    let mut room = vec![0; 100_000];
+    let mut camera = Camera::new(Made::of(&transfers), Recorder::new(&mut room));
+    assert_eq!(ask(&mut camera), Err(Fault::Refused(Refusal::LONG)));
+    assert_eq!(camera.listener.left_out(), LeftOut::default());
+    assert_eq!(records(camera.listener.bytes()).unwrap().map(|record| record.body.len()).collect::<Vec<_>>(), [16]);
 }
 
 #[test]

@@ -62,18 +62,31 @@ impl Card {
     }
 
     // The folder view has the walk's paths, and its places are the model's.
-    fn compare_view(&self, objects: &Objects, walked: &mut [(u32, String)]) {
+    fn compare_view(&self, objects: &Objects, walked: &mut [String]) {
         let (mut out, mut ends, mut places) = (vec![0; 1 << 20], [0; PLACES], [0; PLACES]);
-        let viewed = objects.folder_paths(&mut out, &mut ends, &mut places).unwrap();
+        let viewed = objects.folder_paths(&mut out, &mut ends).unwrap();
         let view = self.view(ROOT);
-        assert!(viewed.iter().map(own).eq(view.iter().map(|each| (each.handle, self.path(each)))));
-        assert!(viewed.places().iter().map(|&place| usize::from(place)).eq(view.iter().map(|each| each.place)));
-        let mut viewed: Vec<_> = viewed.iter().map(own).collect();
+        assert!(viewed.iter().eq(view.iter().map(|each| self.path(each))));
+        let mut viewed: Vec<_> = viewed.iter().collect();
         viewed.sort_unstable();
         walked.sort_unstable();
         assert_eq!(viewed, walked);
         let places = objects.folders(&mut places).unwrap();
         assert!(places.iter().map(|&place| usize::from(place)).eq(view.iter().map(|each| each.place)));
+        let (mut out, mut ends, mut places) = (vec![0; 1 << 20], [0; PLACES], [0; PLACES]);
+        let placed = objects.placed_folder_paths(&mut out, &mut ends, &mut places).unwrap();
+        assert!(placed.iter().map(own).eq(view.iter().map(|each| (each.handle, self.path(each)))));
+        assert!(placed.places().iter().map(|&place| usize::from(place)).eq(view.iter().map(|each| each.place)));
+    }
+
+    // The walk's paths with their handles, along the links as without them.
+    fn compare_placed(&self, objects: &Objects) {
+        let (mut out, mut ends, mut places) = (vec![0; 1 << 20], [0; PLACES], [0; PLACES]);
+        let table = objects.table();
+        let placed = table.placed_paths(&mut out, &mut ends, &mut places).unwrap();
+        let walked: Vec<_> = placed.iter().map(own).collect();
+        assert!(walked.iter().cloned().eq(self.walk().iter().map(|each| (each.handle, self.path(each)))));
+        assert!(objects.placed_paths(&mut out, &mut ends, &mut places).unwrap().iter().map(own).eq(walked));
     }
 
     fn is_within(&self, handle: u32, folder: u32) -> bool {
@@ -120,15 +133,15 @@ impl Card {
     fn compare(&self, objects: &Objects) {
         assert_eq!(objects.len(), self.live.len());
         let (mut out, mut ends, mut places) = (vec![0; 1 << 20], [0; PLACES], [0; PLACES]);
-        let table = objects.table();
-        let paths = table.paths(&mut out, &mut ends, &mut places).unwrap();
-        let mut walked: Vec<_> = paths.iter().map(own).collect();
-        assert!(walked.iter().cloned().eq(self.walk().iter().map(|each| (each.handle, self.path(each)))));
+        let paths = objects.table().paths(&mut out, &mut ends).unwrap();
+        assert!(paths.iter().eq(self.walk().iter().map(|each| self.path(each))));
+        let mut walked: Vec<_> = paths.iter().map(str::to_string).collect();
         // along the links as without them
-        assert!(objects.paths(&mut out, &mut ends, &mut places).unwrap().iter().map(own).eq(walked.iter().cloned()));
+        assert!(objects.paths(&mut out, &mut ends).unwrap().iter().eq(walked.iter()));
         let places = objects.walk(&mut places).unwrap();
         assert!(places.iter().map(|&place| usize::from(place)).eq(self.walk().iter().map(|each| each.place)));
         self.compare_view(objects, &mut walked);
+        self.compare_placed(objects);
         for each in &self.live {
             assert_eq!(objects.find(each.handle), Some(each.place));
         }

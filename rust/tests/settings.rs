@@ -1,16 +1,16 @@
 //! Settings kept from reel to reel: what is stored is found, and what is refused changes nothing.
-use ptp_proved::{write_entry, Edition, PtpDataType, PtpString, Refusal, Serial, Settings};
+use ptp_proved::{entry_bytes, write_entry, Edition, PtpDataType, PtpString, Refusal, Serial, Settings};
 
 const SHUTTER: u16 = 0x500D;
 const UINT32: u16 = 0x0006;
 const SERIAL: [u16; 2] = [0x30, 0x31];
 
 fn any(value: u32, out: &mut [u8]) -> &[u8] {
-    write_entry(6, SHUTTER, None::<Serial>, UINT32, &value.to_le_bytes(), out).unwrap()
+    entry_bytes(6, SHUTTER, None, UINT32, &value.to_le_bytes(), out).unwrap()
 }
 
 fn own(value: u32, out: &mut [u8]) -> &[u8] {
-    write_entry(6, SHUTTER, Some(&SERIAL), UINT32, &value.to_le_bytes(), out).unwrap()
+    entry_bytes(6, SHUTTER, Some(&SERIAL), UINT32, &value.to_le_bytes(), out).unwrap()
 }
 
 fn found(settings: Settings, serial: &[u16]) -> Option<u32> {
@@ -30,7 +30,7 @@ fn what_is_stored_is_found_and_a_serials_own_wins() {
     let two = one.store(own(100, &mut lent), &mut second).unwrap();
     assert_eq!((two.len(), found(two, &SERIAL), found(two, &[])), (2, Some(100), Some(80)));
     assert_eq!(two.find(6, SHUTTER, &SERIAL).map(|kept| kept.is_own), Some(true));
-    assert_eq!(two.find(6, SHUTTER, &[0u16; 0]).map(|kept| kept.is_own), Some(false));
+    assert_eq!(two.find(6, SHUTTER, &[]).map(|kept| kept.is_own), Some(false));
     assert_eq!(two.find(7, SHUTTER, &SERIAL), None);
     assert_eq!(two.find(6, SHUTTER + 1, &SERIAL), None);
     // units that no serial can have
@@ -68,18 +68,42 @@ fn a_refused_store_changes_nothing() {
 fn two_hundred_and_fifty_six_are_held() {
     let mut row = Vec::new();
     for property in 0..256 {
-        row.extend_from_slice(write_entry(6, property, None::<Serial>, 0, &[], &mut [0; 14]).unwrap());
+        row.extend_from_slice(entry_bytes(6, property, None, 0, &[], &mut [0; 14]).unwrap());
     }
     let full = Settings::read(Edition::One, &row).unwrap();
     assert_eq!((full.len(), full.iter().len()), (256, 256));
     let mut out = vec![9; row.len() + 14];
     let (mut new, mut held) = ([0; 14], [0; 15]);
-    let new = write_entry(7, 0, None::<Serial>, 0, &[], &mut new).unwrap();
+    let new = entry_bytes(7, 0, None, 0, &[], &mut new).unwrap();
     assert_eq!(full.store(new, &mut out), Err(Refusal::FULL));
-    let held = write_entry(6, 255, None::<Serial>, 2, &[1], &mut held).unwrap();
+    let held = entry_bytes(6, 255, None, 2, &[1], &mut held).unwrap();
     assert_eq!(full.store(held, &mut out).map(|stored| stored.len()), Ok(256));
     row.extend_from_slice(new);
     assert_eq!(Settings::read(Edition::Two, &row), Err(Refusal::FULL));
+}
+
+#[test]
+fn an_entry_is_laid_out_in_its_exact_room() {
+    for (serial, need) in [(None, 18), (Some(&[][..]), 19), (Some(&SERIAL[..]), 25)] {
+        let mut out = [9; 32];
+        assert_eq!(entry_bytes(6, SHUTTER, serial, UINT32, &[1, 0, 0, 0], &mut out[..need - 1]), Err(Refusal::ROOM));
+        assert_eq!(out, [9; 32]);
+        assert_eq!(entry_bytes(6, SHUTTER, serial, UINT32, &[1, 0, 0, 0], &mut out).map(|bytes| bytes.len()), Ok(need));
+        assert_eq!(out[need..], [9; 32][need..]);
+    }
+    assert_eq!(entry_bytes(6, SHUTTER, Some(&[0x30; 255]), 0, &[], &mut [0; 600]), Err(Refusal::COUNT));
+    assert_eq!(entry_bytes(6, SHUTTER, Some(&[0x30; 254]), 0, &[], &mut [0; 600]).map(|bytes| bytes.len()), Ok(525));
+}
+
+#[test]
+fn an_entry_that_is_written_is_the_one_that_is_laid_out() {
+    let value = 80u32.to_le_bytes();
+    for serial in [None, Some(&[][..]), Some(&SERIAL[..]), Some(&[0x30; 254][..])] {
+        let (mut written, mut laid) = ([9; 600], [9; 600]);
+        let written = write_entry(6, SHUTTER, serial, UINT32, &value, &mut written);
+        assert_eq!(written, entry_bytes(6, SHUTTER, serial, UINT32, &value, &mut laid));
+        assert!(written.is_ok());
+    }
 }
 
 #[test]
@@ -130,6 +154,7 @@ fn a_serial_is_taken_as_the_camera_gives_it() {
     let serial = PtpString::write("01", &mut room).unwrap();
     let row = write_entry(6, SHUTTER, Some(serial), UINT32, &[1, 0, 0, 0], &mut lent).unwrap();
     let settings = Settings::read(Edition::Two, row).unwrap();
-    assert_eq!(settings.find(6, SHUTTER, serial), settings.find(6, SHUTTER, &SERIAL));
-    assert!(settings.find(6, SHUTTER, serial).unwrap().is_own);
+    assert_eq!(settings.find_for(6, SHUTTER, serial), settings.find(6, SHUTTER, &SERIAL));
+    assert_eq!(settings.find_for(6, SHUTTER, serial), settings.find_for(6, SHUTTER, &SERIAL));
+    assert!(settings.find_for(6, SHUTTER, serial).unwrap().is_own);
 }

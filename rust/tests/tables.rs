@@ -65,26 +65,48 @@ fn the_need_of_paths_can_be_known() {
     };
     let two_live = ObjectTable { marks: &list([1, 0, 0, 1], 0), ..TABLE };
     for table in [TABLE, named, two_live] {
-        let (mut out, mut ends, mut places) = ([KEPT; 16], [9; 4], [9; 4]);
-        assert_eq!(table.paths(&mut out[..need(&table) - 1], &mut ends, &mut places), Err(Refusal::ROOM));
-        assert_eq!(table.paths(&mut out[..need(&table)], &mut ends, &mut places).unwrap().bytes().len(), need(&table));
+        let (mut out, mut ends) = ([KEPT; 16], [9; 4]);
+        assert_eq!(table.paths(&mut out[..need(&table) - 1], &mut ends), Err(Refusal::ROOM));
+        assert_eq!(table.paths(&mut out[..need(&table)], &mut ends).unwrap().bytes().len(), need(&table));
+        let mut places = [9; 4];
+        assert_eq!(table.placed_paths(&mut out[..need(&table) - 1], &mut ends, &mut places), Err(Refusal::ROOM));
+        let placed = table.placed_paths(&mut out[..need(&table)], &mut ends, &mut places).unwrap();
+        assert_eq!(placed.bytes().len(), need(&table));
     }
 }
 
 #[test]
 fn paths_need_their_exact_room() {
+    for (room, ends_room) in [(4, 4), (5, 3), (0, 0), (4, 3)] {
+        let (mut out, mut ends) = ([KEPT; 8], [9; 6]);
+        assert_eq!(TABLE.paths(&mut out[..room], &mut ends[..ends_room]), Err(Refusal::ROOM));
+        assert_eq!((out, ends), ([KEPT; 8], [9; 6]));
+    }
+    for (room, ends_room) in [(5, 4), (8, 6)] {
+        let (mut out, mut ends) = ([KEPT; 8], [9; 6]);
+        let paths = TABLE.paths(&mut out[..room], &mut ends[..ends_room]).unwrap();
+        assert!(paths.iter().eq(["", "A", "C", "A/B"]));
+        assert_eq!(paths.get(4), None);
+        assert_eq!((&out[5..], &ends[4..]), (&[KEPT; 3][..], &[9; 2][..]));
+    }
+}
+
+#[test]
+fn placed_paths_need_their_exact_room() {
     for (room, ends_room, places_room) in [(4, 4, 4), (5, 3, 4), (0, 0, 0), (4, 3, 4), (5, 4, 3), (8, 6, 0)] {
         let (mut out, mut ends, mut places) = ([KEPT; 8], [9; 6], [9; 6]);
-        assert_eq!(TABLE.paths(&mut out[..room], &mut ends[..ends_room], &mut places[..places_room]), Err(Refusal::ROOM));
-        assert_eq!(TABLE.folder_paths(&mut out[..room], &mut ends[..ends_room], &mut places[..places_room]), Err(Refusal::ROOM));
+        let (lent, lent_ends, lent_places) = (&mut out[..room], &mut ends[..ends_room], &mut places[..places_room]);
+        assert_eq!(TABLE.placed_paths(lent, lent_ends, lent_places), Err(Refusal::ROOM));
+        assert_eq!(TABLE.placed_folder_paths(lent, lent_ends, lent_places), Err(Refusal::ROOM));
         assert_eq!((out, ends, places), ([KEPT; 8], [9; 6], [9; 6]));
     }
     for (room, ends_room) in [(5, 4), (8, 6)] {
         let (mut out, mut ends, mut places) = ([KEPT; 8], [9; 6], [9; 6]);
-        let paths = TABLE.paths(&mut out[..room], &mut ends[..ends_room], &mut places[..ends_room]).unwrap();
-        assert!(paths.iter().map(|(_, path)| path).eq(["", "A", "C", "A/B"]));
-        assert!(paths.iter().map(|(handle, _)| handle).eq(paths.places().iter().map(|&place| TABLE.handles[usize::from(place)])));
-        assert_eq!(paths.get(4), None);
+        let placed = TABLE.placed_paths(&mut out[..room], &mut ends[..ends_room], &mut places[..ends_room]).unwrap();
+        assert!(placed.iter().map(|(_, path)| path).eq(["", "A", "C", "A/B"]));
+        assert!(placed.paths().iter().eq(["", "A", "C", "A/B"]));
+        assert!(placed.iter().map(|(handle, _)| handle).eq(placed.places().iter().map(|&place| TABLE.handles[usize::from(place)])));
+        assert_eq!((placed.get(4), placed.len(), placed.is_empty(), placed.ends().len()), (None, 4, false, 4));
         assert_eq!((&out[5..], &ends[4..], &places[4..]), (&[KEPT; 3][..], &[9; 2][..], &[9; 2][..]));
     }
 }
@@ -95,7 +117,9 @@ fn only_live_objects_are_walked() {
     let (mut places, mut out, mut ends) = ([9; 3], [KEPT; 2], [9; 3]);
     assert_eq!(two_live.walk(&mut places[..1]), Err(Refusal::ROOM));
     assert_eq!(two_live.walk(&mut places), Ok(&[0, 3][..]));
-    assert!(two_live.paths(&mut out, &mut ends, &mut places).unwrap().iter().map(|(_, path)| path).eq(["", "C"]));
+    assert!(two_live.paths(&mut out, &mut ends).unwrap().iter().eq(["", "C"]));
+    assert_eq!((places[2], out[1], ends[2]), (9, KEPT, 9));
+    assert!(two_live.placed_paths(&mut out, &mut ends, &mut places).unwrap().iter().map(|(_, path)| path).eq(["", "C"]));
     assert_eq!((places[2], out[1], ends[2]), (9, KEPT, 9));
     for place in [1, 2, 4, 1024, usize::MAX] {
         assert_eq!(two_live.path(place, &mut out), Err(Refusal::PLACE));
@@ -119,8 +143,9 @@ fn a_table_that_breaks_its_rule_is_refused() {
     ] {
         assert_eq!(table.walk(&mut [0; PLACES]), Err(Refusal::TABLE));
         assert_eq!(table.path(0, &mut [0; 8]), Err(Refusal::TABLE));
-        assert_eq!(table.paths(&mut [0; 8], &mut [0; 4], &mut [0; 4]), Err(Refusal::TABLE));
-        assert_eq!(table.paths(&mut [0; 8], &mut [0; 4], &mut []), Err(Refusal::TABLE));
+        assert_eq!(table.paths(&mut [0; 8], &mut [0; 4]), Err(Refusal::TABLE));
+        assert_eq!(table.placed_paths(&mut [0; 8], &mut [0; 4], &mut [0; 4]), Err(Refusal::TABLE));
+        assert_eq!(table.placed_paths(&mut [0; 8], &mut [0; 4], &mut []), Err(Refusal::TABLE));
     }
 }
 
@@ -130,7 +155,8 @@ fn refused_table_writes_nothing() {
     let short_names = ObjectTable { ends: &list([1, 6, 10, 16], 0), marks: &list([1, 1, 0, 1], 0), ..TABLE };
     for (table, why) in [(late_parent, Refusal::TABLE), (short_names, Refusal::END { at: 0 })] {
         let (mut out, mut ends, mut places) = ([KEPT; 8], [9; 4], [9; 4]);
-        assert_eq!(table.paths(&mut out, &mut ends, &mut places), Err(why));
+        assert_eq!(table.paths(&mut out, &mut ends), Err(why));
+        assert_eq!(table.placed_paths(&mut out, &mut ends, &mut places), Err(why));
         assert_eq!(table.walk(&mut places), Err(why));
         assert_eq!((out, ends, places), ([KEPT; 8], [9; 4], [9; 4]));
     }
@@ -219,7 +245,8 @@ fn adding_collects_only_where_it_must() {
     assert_eq!((added.place, added.new_places, added.others_moved()), (4, &[0, 1, 2, 3][..], false));
     let added = table.add(4, 8, b"\x02D\0\0\0", new_places).unwrap();
     assert_eq!((added.place, added.new_places, added.others_moved()), (3, &[0, 65535, 65535, 1, 2][..], true));
+    assert!(table.view().paths(&mut [0; 16], &mut [0; 4]).unwrap().iter().eq(["", "C", "C/", "C//D"]));
     let (mut out, mut ends, mut places) = ([0; 16], [0; 4], [0; 4]);
-    let paths = table.view().paths(&mut out, &mut ends, &mut places).unwrap();
-    assert!(paths.iter().map(|(_, path)| path).eq(["", "C", "C/", "C//D"]));
+    let placed = table.view().placed_paths(&mut out, &mut ends, &mut places).unwrap();
+    assert!(placed.iter().map(|(_, path)| path).eq(["", "C", "C/", "C//D"]));
 }

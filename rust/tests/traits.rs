@@ -27,11 +27,15 @@ fn list() -> PtpValues<'static> {
 fn iterators_count_and_stay_ended() {
     counts(list().iter(), 2);
     counts(PtpReader::new(&[2, 0, 0, 0, 7, 8]).read_ptp_u8_vec().unwrap().iter(), 2);
-    let (mut names, mut out, mut ends, mut places) = ([0; 6], [0; 16], [0; 2], [0; 2]);
+    let (mut names, mut out, mut ends) = ([0; 6], [0; 16], [0; 2]);
     let mut objects = Objects::new(1, &[0], &mut names).unwrap();
     objects.add(0, 2, b"\x02A\0\0\0").unwrap();
-    counts(objects.table().paths(&mut out, &mut ends, &mut places).unwrap().into_iter(), 2);
+    counts(objects.table().paths(&mut out, &mut ends).unwrap().into_iter(), 2);
+    let mut places = [0; 2];
+    counts(objects.table().placed_paths(&mut out, &mut ends, &mut places).unwrap().into_iter(), 2);
     let mut lent = [0; 32];
+    let row = entry_bytes(6, 0x5001, None, 2, &[50], &mut lent).unwrap();
+    counts(Settings::read(Edition::One, row).unwrap().into_iter(), 1);
     let row = write_entry(6, 0x5001, None::<Serial>, 2, &[50], &mut lent).unwrap();
     counts(Settings::read(Edition::One, row).unwrap().into_iter(), 1);
     let (mut out, mut starts, mut lengths) = ([0; 16], [0; 4], [0; 4]);

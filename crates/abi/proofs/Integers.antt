@@ -1,14 +1,13 @@
 -- An integer's bytes are one store of its low word, and for 128 bits a second one behind it.
 -- Assumes nothing.
-use Rattle.std.proofs.Common.{◌≡◌, ℕ, ◌+◌, ◌-◌, ◌≤◌, Bool, true, false, leb, List, length, refl, ◌∙◌, append-nil, arith, length-append, eq-eqb, ne_eqb, le-leb, leb-false, leb-true}
+use Rattle.std.proofs.Common.{◌≡◌, ℕ, ◌+◌, ◌-◌, ◌≤◌, Bool, true, false, eqb, leb, List, length, refl, ◌∙◌, append-nil, arith, lit≤, length-append, eq-eqb, ne_eqb, le-leb, leb-false, leb-true}
 use Rattle.layout.specs.Answer.{bare, pick}
 use Rattle.layout.specs.Bytes.{bytes}
 use Rattle.layout.specs.Refusals.{PLACE}
 use Rattle.layout.specs.Written.{says, no, Put, roomed}
 use Rattle.layout.proofs.laws.Numbers.{length_bytes}
 use Rattle.layout.proofs.laws.Writing.{roomy, then_roomy}
-use Rattle.wire.specs.Layout.{integer_width}
-use Rattle.abi.specs.Integers.{integer_bytes, integer_said}
+use Rattle.abi.specs.Integers.{integer_width, integer_bytes, integer_said}
 
 module _ (code low high : ℕ) where
   pub said_none : integer_width code ≡ 0 → integer_said code low high ≡ no (bare PLACE)
@@ -18,6 +17,20 @@ module _ (code low high : ℕ) where
   pub said_bytes : (integer_width code ≡ 0 → ⊥) → integer_said code low high ≡ says (integer_bytes (integer_width code) low high)
   unfolding integer_said
   said_bytes e = rw (ne_eqb (integer_width code) 0 e)
+
+-- no type has a width between
+pub narrow : (code : ℕ) → (integer_width code ≡ 16 → ⊥) → integer_width code ≤ 8
+unfolding integer_width
+narrow code h = go (eqb code 0) (leb code 2) (leb code 4) (leb code 6) (leb code 8) (leb code 10) h
+  where
+    go : (a b c d e f : Bool) → (◌≡◌ {A = ℕ} (pick a 0 (pick b 1 (pick c 2 (pick d 4 (pick e 8 (pick f 16 0)))))) 16 → ⊥) → pick a 0 (pick b 1 (pick c 2 (pick d 4 (pick e 8 (pick f 16 0))))) ≤ 8
+    go true b c d e f h = lit≤ tt
+    go false true c d e f h = lit≤ tt
+    go false false true d e f h = lit≤ tt
+    go false false false true e f h = lit≤ tt
+    go false false false false true f h = lit≤ tt
+    go false false false false false true h = absurd (h refl)
+    go false false false false false false h = lit≤ tt
 
 module _ (w low high : ℕ) where
   pub integer_length : length (integer_bytes w low high) ≡ w

@@ -1,9 +1,9 @@
 -- What `ptp_write_integer` writes is the tidy word of the value that it is given, by the code that the paper gives its type; and 12 exactly for the other codes.
 -- Assumes nothing.
-use Rattle.std.proofs.Common.{◌≡◌, ℕ, ◌+◌, ◌-◌, ◌*◌, ◌^◌, ◌<◌, ◌≤◌, Bool, true, false, eqb, ◌⊎◌, ◌↔◌, List, ℤ, pos, negsuc, sym, refl, ap, ◌∙◌, append-nil, arith, lit≤, eqb-true, le-leb}
+use Rattle.std.proofs.Common.{◌≡◌, ℕ, ◌+◌, ◌-◌, ◌*◌, ◌^◌, ◌<◌, ◌≤◌, Bool, true, false, eqb, leb, ◌⊎◌, ◌↔◌, List, ℤ, pos, negsuc, sym, refl, ap, ◌∙◌, inl, inr, append-nil, arith, lit≤, eqb-true, le-leb, leb-false, leb-true}
 use borrow.Author.Tests.{eqb-false}
 use lib.Signed.{mag}
-use Rattle.layout.specs.Answer.{bare}
+use Rattle.layout.specs.Answer.{bare, pick}
 use Rattle.layout.specs.Bytes.{bytes}
 use Rattle.layout.specs.Grammar.{tidy}
 use Rattle.layout.specs.Refusals.{PLACE}
@@ -11,14 +11,13 @@ use Rattle.layout.specs.Written.{says, no}
 use Rattle.layout.proofs.laws.Numbers.{zero_one}
 use Rattle.wire.specs.Codecs.{unsigned}
 use Rattle.wire.specs.Given.{integer_word}
-use Rattle.wire.specs.Layout.{int, nat, pair, integer_width, Val, num, Value}
+use Rattle.wire.specs.Layout.{int, nat, pair, Val, num, Value}
 use Rattle.wire.specs.Typed.{Signed, IntegerType, int8, uint8, int16, uint16, int32, uint32, int64, uint64, int128, uint128, undef}
 use Rattle.wire.specs.declared.given.Bits.{Bits}
 use Rattle.wire.specs.declared.given.Integer.{Integer}
 use Rattle.wire.proofs.laws.Integers.{integer_written}
-use Rattle.wire.proofs.laws.Kinds.{width_none}
 use Rattle.wire.proofs.laws.Numbered.{unsigned_word, signed_word, pair_word}
-use Rattle.abi.specs.Integers.{integer_bytes, integer_said, InWords, above, below, plain, halves}
+use Rattle.abi.specs.Integers.{integer_width, integer_bytes, integer_said, InWords, above, below, plain, halves}
 use Rattle.abi.proofs.Integers.{said_none, said_bytes}
 
 -- ── its bytes ──
@@ -94,10 +93,28 @@ module _ {low high : ℕ} where
 
 -- ── 12 ──
 
+no_width : (code : ℕ) → integer_width code ≡ 0 ↔ ((code < 1) ⊎ (10 < code))
+unfolding integer_width
+no_width code = go (eqb code 0) refl (leb code 2) refl (leb code 4) refl (leb code 6) refl (leb code 8) refl (leb code 10) refl
+  where
+    inside : (code ≡ 0 → ⊥) → code ≤ 10 → (code < 1) ⊎ (10 < code) → ⊥
+    inside some h (inl k) = omega arith
+    inside some h (inr k) = omega arith
+
+    go : (a : Bool) → eqb code 0 ≡ a → (b : Bool) → leb code 2 ≡ b → (c : Bool) → leb code 4 ≡ c → (d : Bool) → leb code 6 ≡ d → (e : Bool) → leb code 8 ≡ e → (f : Bool) → leb code 10 ≡ f
+        → ◌≡◌ {A = ℕ} (pick a 0 (pick b 1 (pick c 2 (pick d 4 (pick e 8 (pick f 16 0)))))) 0 ↔ ((code < 1) ⊎ (10 < code))
+    go true i b j c k d l e m f n = (λ _. inl (omega (arith, eqb-true code 0 i)), λ _. refl)
+    go false i true j c k d l e m f n = (λ z. absurd (omega arith), λ o. absurd (inside (eqb-false code 0 i) (omega (arith, leb-true code 2 j)) o))
+    go false i false j true k d l e m f n = (λ z. absurd (omega arith), λ o. absurd (inside (eqb-false code 0 i) (omega (arith, leb-true code 4 k)) o))
+    go false i false j false k true l e m f n = (λ z. absurd (omega arith), λ o. absurd (inside (eqb-false code 0 i) (omega (arith, leb-true code 6 l)) o))
+    go false i false j false k false l true m f n = (λ z. absurd (omega arith), λ o. absurd (inside (eqb-false code 0 i) (omega (arith, leb-true code 8 m)) o))
+    go false i false j false k false l false m true n = (λ z. absurd (omega arith), λ o. absurd (inside (eqb-false code 0 i) (leb-true code 10 n) o))
+    go false i false j false k false l false m false n = (λ _. inr (leb-false code 10 n), λ _. refl)
+
 -- exactly for the codes that are no integer's
 pub integer_12 : (code low high : ℕ) → integer_said code low high ≡ no (bare PLACE) ↔ ((code < 1) ⊎ (10 < code))
-integer_12 code low high = (λ e. go (eqb (integer_width code) 0) refl e, λ o. said_none code low high ((width_none code).1 o))
+integer_12 code low high = (λ e. go (eqb (integer_width code) 0) refl e, λ o. said_none code low high ((no_width code).1 o))
   where
     go : (b : Bool) → eqb (integer_width code) 0 ≡ b → integer_said code low high ≡ no (bare PLACE) → (code < 1) ⊎ (10 < code)
-    go true i e = (width_none code).0 (eqb-true (integer_width code) 0 i)
+    go true i e = (no_width code).0 (eqb-true (integer_width code) 0 i)
     go false i e = let f = said_bytes code low high (eqb-false (integer_width code) 0 i) in zero_one (cc)

@@ -5,7 +5,13 @@ use Rattle.layout.specs.Answer.{bare, pick}
 use Rattle.layout.specs.Bytes.{bytes}
 use Rattle.layout.specs.Refusals.{PLACE}
 use Rattle.layout.specs.Written.{Said, says, no}
-use Rattle.wire.specs.Layout.{int, nat, pair, integer_width, Val, num}
+use Rattle.wire.specs.Layout.{int, nat, pair, Val, num}
+
+-- the bytes of each of the types 1 to 10; 0 for any other
+unfoldable pub integer_width : ℕ → ℕ
+integer_width code =
+    pick (code == 0) 0
+    (pick (nat_le code 2) 1 (pick (nat_le code 4) 2 (pick (nat_le code 6) 4 (pick (nat_le code 8) 8 (pick (nat_le code 10) 16 0)))))
 
 -- the low bytes of the word, so that two's complement and a plain number are written alike
 unfoldable pub integer_bytes : ℕ → ℕ → ℕ → List ℕ

@@ -111,13 +111,13 @@ newer_row c = side c.of_payload ∷ c.start ∷ c.len ∷ []
 -- ── answers and records ──
 
 -- the Response's code, and the payload: none where the Response is not Ok
-abbrev pub answer_row : Reply → List ℕ
-answer_row (payload p) = 0x2001 ∷ p.start ∷ p.count ∷ []
-answer_row (response code) = code ∷ 0 ∷ 0 ∷ []
+abbrev pub reply_row : Reply → List ℕ
+reply_row (payload p) = 0x2001 ∷ p.start ∷ p.count ∷ []
+reply_row (response code) = code ∷ 0 ∷ 0 ∷ []
 
 -- then the Response's own payload: its start, and how many parameters of four bytes stand there whole
-abbrev pub reply_row : Response → List ℕ
-reply_row x = answer_row (reply_to x.code x.last) ++ (x.payload.start ∷ x.payload.count / 4 ∷ [])
+abbrev pub response_row : Response → List ℕ
+response_row x = reply_row (reply_to x.code x.last) ++ (x.payload.start ∷ x.payload.count / 4 ∷ [])
 
 -- a container's kind, code, number and payload
 abbrev pub container_row : Container → List ℕ

@@ -1,5 +1,7 @@
 // What a controller calls from C or Rust: numbers and slices only. ptp.h says the same in C.
 // Each function answers how many numbers or bytes it gave, or minus the number of its refusal. What is right is in specs/.
+#![tactic(auto)]
+
 mod answer;
 mod copied;
 mod dataset;
@@ -13,7 +15,7 @@ mod property;
 mod record;
 mod recorded;
 mod setting;
-mod text;
+mod strings;
 mod transaction;
 mod value;
 mod window;

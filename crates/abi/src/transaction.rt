@@ -3,17 +3,17 @@ ghost use Rattle.std.specs.Prelude.{◌≡◌, ◌∷◌, length};
 ghost use Rattle.layout.specs.Written.{Wrote, says_written};
 ghost use Rattle.session.specs.Calls.{command_of};
 ghost use Rattle.session.specs.Needs.{Needs};
-ghost use Rattle.session.specs.Search.{response_in};
+ghost use Rattle.session.specs.Search.{answer_in, response_in};
 ghost use Rattle.session.specs.Transaction.{Makes, says_made};
 ghost use Rattle.wire.specs.Property.{has_enable};
 ghost use Rattle.panel.specs.Panel.{panel_said};
 ghost use Rattle.abi.specs.Answered.{word, Tells, Gives, given};
-ghost use Rattle.abi.specs.Rows.{layout_of, reply_row};
+ghost use Rattle.abi.specs.Rows.{layout_of, reply_row, response_row};
 ghost use Rattle.abi.specs.Sent.{command_due, session_at, number_after, command_end, end_after, Parts};
 
 use crate::{answer, dataset};
 use layout::Written;
-use session::{Made, ReadResponse, Response, Session};
+use session::{Found, Made, ReadResponse, Response, Session};
 
 fn made(
     number: u32,
@@ -111,8 +111,29 @@ pub extern "C" fn ptp_set_value(
     s.word
 }
 
-fn response_row(x: Response, next: usize) -> [u64; 6]
-    ensures { result ≡ next ∷ reply_row x }
+fn give_answer(s: &[u8], number: u32, out: &mut [u64]) -> Written
+    ensures { Wrote (given reply_row (answer_in number s.now)) out.old (says_written result) out.new }
+{
+    match session::find_answer(s, number) {
+        Found::Payload(p, next) => answer::give(
+            &[next.at as u64, 0x2001, p.start as u64, p.count as u64],
+            out,
+        ),
+        Found::Response(code, next) => answer::give(&[next.at as u64, code as u64, 0, 0], out),
+        Found::Refused(f) => Written::Refused(f),
+    }
+}
+
+// The place after the Response, its code, and the start and length of the last Data payload.
+#[unsafe(no_mangle)]
+pub extern "C" fn ptp_find_answer(s: &[u8], number: u32, out: &mut [u64]) -> u64
+    ensures { Gives (given reply_row (answer_in number s.now)) out.old result out.new }
+{
+    answer::told(give_answer(s, number, out))
+}
+
+fn response_numbers(x: Response, next: usize) -> [u64; 6]
+    ensures { result ≡ next ∷ response_row x }
 {
     let last = x.last;
     let payload = x.payload;
@@ -137,22 +158,21 @@ fn response_row(x: Response, next: usize) -> [u64; 6]
     ]
 }
 
-fn give_answer(s: &[u8], number: u32, out: &mut [u64]) -> Written
-    ensures { Wrote (given reply_row (response_in number s.now)) out.old (says_written result) out.new }
+fn give_response(s: &[u8], number: u32, out: &mut [u64]) -> Written
+    ensures { Wrote (given response_row (response_in number s.now)) out.old (says_written result) out.new }
 {
     match session::find_response(s, number) {
-        ReadResponse::Got(x, next) => answer::give(&response_row(x, next.at), out),
+        ReadResponse::Got(x, next) => answer::give(&response_numbers(x, next.at), out),
         ReadResponse::Refused(f) => Written::Refused(f),
     }
 }
 
-// The place after the Response, its code, the start and length of the last Data payload where it is Ok; then where the Response's own parameters start, and how many of
-// four bytes there are.
+// The numbers of `ptp_find_answer`; then where the Response's own parameters start, and how many of four bytes there are.
 #[unsafe(no_mangle)]
-pub extern "C" fn ptp_find_answer(s: &[u8], number: u32, out: &mut [u64]) -> u64
-    ensures { Gives (given reply_row (response_in number s.now)) out.old result out.new }
+pub extern "C" fn ptp_find_response(s: &[u8], number: u32, out: &mut [u64]) -> u64
+    ensures { Gives (given response_row (response_in number s.now)) out.old result out.new }
 {
-    answer::told(give_answer(s, number, out))
+    answer::told(give_response(s, number, out))
 }
 
 // How many bytes must follow at least before anything can be said of the answer: 0 where `ptp_find_answer` answers, or refuses with something that no bytes can change.

@@ -1,4 +1,5 @@
 // What a caller writes: integers, strings, arrays, tidy values and records, containers, records of a recording.
+ghost use Rattle.std.specs.Prelude.{◌≡◌};
 ghost use Rattle.layout.specs.Written.{Wrote, says_written, tidied};
 ghost use Rattle.recording.specs.Record.{record_said};
 ghost use Rattle.wire.specs.Codecs.{value, row};
@@ -6,15 +7,36 @@ ghost use Rattle.wire.specs.Container.{container_said};
 ghost use Rattle.wire.specs.Given.{text_said, array_said};
 ghost use Rattle.wire.specs.Layout.{device, object, storage};
 ghost use Rattle.abi.specs.Answered.{Gives};
-ghost use Rattle.abi.specs.Integers.{integer_said};
+ghost use Rattle.abi.specs.Integers.{integer_width, integer_said};
 
 use crate::answer;
 use layout::Written;
 
+fn integer_width(code: u16) -> usize
+    ensures { result ≡ integer_width code }
+{
+    if code == 0 {
+        return 0;
+    }
+    if code <= 2 {
+        return 1;
+    }
+    if code <= 4 {
+        return 2;
+    }
+    if code <= 6 {
+        return 4;
+    }
+    if code <= 8 {
+        return 8;
+    }
+    if code <= 10 { 16 } else { 0 }
+}
+
 fn put_integer(code: u16, low: u64, high: u64, out: &mut [u8]) -> Written
     ensures { Wrote (integer_said code low high) out.old (says_written result) out.new }
 {
-    let w = wire::integer_width(code);
+    let w = integer_width(code);
     if w == 0 {
         return Written::Refused(layout::plain(layout::PLACE));
     }

@@ -9,8 +9,25 @@ pub const UNEXPECTED: &str = "the camera expected something else";
 
 type Step<T, E> = Result<T, Fault<E>>;
 
-/// The day's camera, over a transport whose faults can be told; all that goes to it and comes from it is recorded.
-struct Bench<'o, T>(Camera<T, Recorder<'o>>);
+/// All that goes to the camera and comes from it is recorded, and it is said where the camera is busy.
+struct Heard<'o>(Recorder<'o>);
+
+impl Listener for Heard<'_> {
+    fn sent(&mut self, made: Made<'_>) -> Result<(), Refusal> {
+        self.0.sent(made)
+    }
+
+    fn received(&mut self, containers: &[u8]) -> Result<(), Refusal> {
+        self.0.received(containers)
+    }
+
+    fn busy(&mut self, _times: u32) {
+        println!("the camera is busy");
+    }
+}
+
+/// The day's camera, over a transport whose faults can be told.
+struct Bench<'o, T>(Camera<T, Heard<'o>>);
 
 impl<T: Transport<Error = E>, E: Display + From<String>> Bench<'_, T> {
     fn open(&mut self) -> Step<(), E> {
@@ -38,12 +55,15 @@ impl<T: Transport<Error = E>, E: Display + From<String>> Bench<'_, T> {
         Ok(reply)
     }
 
-    /// The value that follows the current one.
+    /// The value that follows the current one, set again while the camera is busy.
     fn set_next(&mut self, description: &[u8]) -> Step<(), E> {
         let (info, _) = PtpPropInfo::decode(LAYOUT, description)?;
         let next = info.value_after().ok_or_else(|| told(UNEXPECTED))?;
         println!("set to {next}");
-        self.0.ask(|session, out| session.set_value(LAYOUT, description, info.DataType, &next.to_vec(), out)).map(drop)
+        self.0.retries = u32::MAX;
+        let set = self.0.ask(|session, out| session.set_value(LAYOUT, description, info.DataType, &next.to_vec(), out));
+        self.0.retries = 0;
+        set.map(drop)
     }
 
     /// The roots of a storage, what each is, and their paths; the handle of the second.
@@ -57,7 +77,7 @@ impl<T: Transport<Error = E>, E: Display + From<String>> Bench<'_, T> {
             println!("object {handle} {:>14} {} bytes", info.Filename, info.ObjectCompressedSize);
             builder.add_info(handle, &info)?;
         }
-        builder.build().map_err(told)?.paths().iter().for_each(|(handle, path)| println!("path /{path} of {handle}"));
+        builder.build().map_err(told)?.paths().iter().for_each(|(_, path)| println!("path /{path}"));
         handles.get(1).ok_or_else(|| told(UNEXPECTED))
     }
 
@@ -92,13 +112,12 @@ fn told<E: From<String>>(why: impl Display) -> Fault<E> {
 /// The whole day, told line by line: what was sent and received goes to the file, and its listing is printed last.
 pub fn run<E: Display + From<String>>(transport: impl Transport<Error = E>, out: &str) -> ExitCode {
     let mut room = vec![0; 65536];
-    let mut bench = Bench(Camera::new(transport, Recorder::new(&mut room)));
-    bench.0.retries = 100;
+    let mut bench = Bench(Camera::new(transport, Heard(Recorder::new(&mut room))));
     if let Err(why) = bench.day() {
         eprintln!("{why}");
         return ExitCode::FAILURE;
     }
-    let recording = bench.0.listener.bytes();
+    let recording = bench.0.listener.0.bytes();
     std::fs::write(out, recording).expect("the recording is written");
     list_recording(recording, |piece| print!("{}", std::str::from_utf8(piece).expect("a listing is ASCII")));
     ExitCode::SUCCESS

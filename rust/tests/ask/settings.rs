@@ -1,6 +1,6 @@
 //! Rows of settings.
 use super::{show, words};
-use ptp_proved::{write_entry, Edition, Setting, Settings};
+use ptp_proved::{entry_bytes, write_entry, Edition, Setting, Settings};
 
 fn edition(word: &str) -> Option<Edition> {
     match words::number(word, 2)? {
@@ -15,17 +15,20 @@ fn kind(is_for_one: bool) -> u16 {
     16 + u16::from(is_for_one)
 }
 
-// The writer gives the very bytes of one that was read.
-fn written_again(entry: &Setting) {
+// The helper that lays an entry out gives the very bytes of one that was read, and so does the writer.
+fn laid_out_again(entry: &Setting) {
     let units: Option<Vec<u16>> = entry.serial.map(|serial| serial.units().iter().collect());
     let mut out = vec![0xA5; entry.bytes.len()];
     let value = entry.value;
+    let laid = entry_bytes(entry.vendor, entry.property, units.as_deref(), value.data_type(), value.bytes(), &mut out);
+    assert_eq!(laid, Ok(entry.bytes));
+    out.fill(0xA5);
     let written = write_entry(entry.vendor, entry.property, units.as_deref(), value.data_type(), value.bytes(), &mut out);
     assert_eq!(written, Ok(entry.bytes));
 }
 
 fn entry_words(row: &[u8], entry: Setting) -> String {
-    written_again(&entry);
+    laid_out_again(&entry);
     format!(
         " {} {} {} {} {} {} {} {}",
         show::start(entry.bytes, row),
@@ -57,7 +60,9 @@ pub fn find(which: &str, row: &str, vendor: &str, property: &str, serial: &str) 
         Ok(read) => read,
         Err(why) => return Some(show::refusal(why)),
     };
-    let kept = match read.find(vendor, property, &serial[..]) {
+    let found = read.find(vendor, property, &serial);
+    assert_eq!(read.find_for(vendor, property, &serial[..]), found);
+    let kept = match found {
         Some(kept) => kept,
         None => return Some("none".into()),
     };
@@ -70,7 +75,10 @@ pub fn store(which: &str, row: &str, entry: &str, room: &str) -> Option<String> 
     let (which, row, entry) = (edition(which)?, words::bytes(row)?, words::bytes(entry)?);
     let mut out = words::room(room)?;
     let answer = Settings::read(which, &row).and_then(|read| Ok(read.store(&entry, &mut out)?.bytes().len()));
-    Some(super::values::written(answer, &out))
+    Some(match answer {
+        Ok(count) => format!("ok {count} {}", show::bytes(&out)),
+        Err(why) => format!("{} {}", show::refusal(why), show::bytes(&out)),
+    })
 }
 
 // `own` for the camera of the serial, `any` for any.

@@ -1,6 +1,6 @@
 //! Object tables.
 use super::{show, words};
-use ptp_proved::{Links, LinksMut, ObjectTable, ObjectTableMut, Paths, Refusal};
+use ptp_proved::{Links, LinksMut, ObjectTable, ObjectTableMut, Paths, PlacedPaths, Refusal};
 
 // A list that is only written holds this before.
 const FILLED: u16 = 0xA5A5;
@@ -82,8 +82,14 @@ pub fn answer(kind: &str, words: &[&str]) -> Option<String> {
         ("walk", []) => Some(places(|out| table.lent().0.view().walk(out).map(<[u16]>::len))),
         ("folders", []) => Some(places(|out| table.lent().0.view().folders(out).map(<[u16]>::len))),
         ("path", [place, room]) => path(table.lent().0.view(), place, room),
-        ("paths", [room]) => paths(room, |out, ends, places| told(table.lent().0.view().paths(out, ends, places))),
-        ("folder-paths", [room]) => paths(room, |out, ends, places| told(table.lent().0.view().folder_paths(out, ends, places))),
+        ("paths", [room]) => {
+            let line = paths(room, |out, ends| told(table.lent().0.view().paths(out, ends)));
+            same(line, paths(room, |out, ends| placed(table.lent().0.view().placed_paths(out, ends, &mut all_places()))))
+        }
+        ("folder-paths", [room]) => {
+            let line = paths(room, |out, ends| told(table.lent().0.view().folder_paths(out, ends)));
+            same(line, paths(room, |out, ends| placed(table.lent().0.view().placed_folder_paths(out, ends, &mut all_places()))))
+        }
         ("delete", [place]) => delete(table, place, None),
         ("collect", []) => Some(collect(table, None)),
         ("add", [parent, handle, name]) => add(table, parent, handle, name, None),
@@ -98,7 +104,11 @@ fn linked(kind: &str, mut table: Table, kept: Kept, more: &[&str]) -> Option<Str
     match (kind, more) {
         ("linked-walk", []) => Some(places(|out| table.lent().0.view().linked_walk(kept.view(), out).map(<[u16]>::len))),
         ("linked-paths", [room]) => {
-            paths(room, |out, ends, places| told(table.lent().0.view().linked_paths(kept.view(), out, ends, places)))
+            let line = paths(room, |out, ends| told(table.lent().0.view().linked_paths(kept.view(), out, ends)));
+            let links = kept.view();
+            let placed_line =
+                paths(room, |out, ends| placed(table.lent().0.view().placed_linked_paths(links, out, ends, &mut all_places())));
+            same(line, placed_line)
         }
         ("linked-delete", [place]) => delete(table, place, Some(kept)),
         ("linked-collect", []) => Some(collect(table, Some(kept))),
@@ -146,15 +156,34 @@ fn path(table: ObjectTable, place: &str, room: &str) -> Option<String> {
 // How many bytes, and how many paths.
 fn told(answer: Result<Paths, Refusal>) -> Result<(usize, usize), Refusal> {
     answer.map(|paths| {
-        let all: String = paths.iter().map(|(_, path)| path).collect();
+        let all: String = paths.iter().collect();
         assert_eq!(all.as_bytes(), paths.bytes());
         (paths.bytes().len(), paths.len())
     })
 }
 
-fn paths(room: &str, mut list: impl FnMut(&mut [u8], &mut [u32], &mut [u16]) -> Result<(usize, usize), Refusal>) -> Option<String> {
+// The same of the paths with their handles.
+fn placed(answer: Result<PlacedPaths, Refusal>) -> Result<(usize, usize), Refusal> {
+    answer.map(|paths| {
+        assert!(paths.iter().map(|(_, path)| path).eq(paths.paths().iter()));
+        assert_eq!(paths.places().len(), paths.len());
+        (paths.bytes().len(), paths.len())
+    })
+}
+
+fn all_places() -> [u16; ObjectTable::PLACES] {
+    [0; ObjectTable::PLACES]
+}
+
+// One question, answered in two ways.
+fn same(line: Option<String>, other: Option<String>) -> Option<String> {
+    assert_eq!(line, other);
+    line
+}
+
+fn paths(room: &str, mut list: impl FnMut(&mut [u8], &mut [u32]) -> Result<(usize, usize), Refusal>) -> Option<String> {
     let (mut out, mut ends) = (words::room(room)?, [FILLED_END; ObjectTable::PLACES]);
-    let answer = list(&mut out, &mut ends, &mut [0; ObjectTable::PLACES]);
+    let answer = list(&mut out, &mut ends);
     let told = answer.map_or(0, |(_, told)| told);
     assert!(ends[told..].iter().all(|&end| end == FILLED_END), "an end too many");
     let line = format!("{} {}", counted(answer.map(|(count, _)| count)), show::bytes(&out));

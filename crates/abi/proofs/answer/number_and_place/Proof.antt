@@ -4,12 +4,12 @@ use Rattle.abi.proofs.Minus.{far}
 use Rattle.abi.proofs.answer.number_and_place.Statement.{statement}
 use Rattle.abi.proofs.answer.number_and_place.Tie as tie
 
-pub number-and-place-spec : {M : Type 1} → statement M
-number-and-place-spec =
+pub number_and_place_spec : {M : Type 1} → statement M
+number_and_place_spec =
     tie.close
     (tie.spec
     (λ c κs. search rules)
-    (λ c. record { fits = omega (arith, far c.before.args.f.at, c.least.ensures) })
+    (λ c. record { fits = omega (arith, far c.args.f.at, c.least.ensures) })
     (λ c. search rules)
-    (λ c. record { fits = omega (arith, far c.before.before.args.f.at, c.before.least.ensures) })
-    (λ c. ap (λ (n : ℕ). 256 * n + c.before.before.args.f.no) c.before.least.ensures))
+    (λ c. record { fits = omega (arith, far c.args.f.at, c.least.ensures) })
+    (λ c. ap (λ (n : ℕ). 256 * n + c.args.f.no) c.least.ensures))

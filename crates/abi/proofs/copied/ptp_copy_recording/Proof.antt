@@ -6,26 +6,26 @@ use Rattle.abi.proofs.Copying.{says_unroomed, says-copied, says_refused}
 use Rattle.abi.proofs.copied.ptp_copy_recording.Statement.{statement}
 use Rattle.abi.proofs.copied.ptp_copy_recording.Tie as tie
 
-returns : tie.Need-returns
+returns : tie.Need-returns-then-left-lt2
 returns c =
-    let a = c.before.before.before.before.before.before.args in
-    says_unroomed a.s.now a.out.now a.left.now c.before.before.if1.true (c.told.ensures ∙ ap word c.before.refuse-copy.ensures)
+    let a = c.args in
+    says_unroomed a.s.now a.out.now a.left.now c.if-left-lt2.true (c.told.ensures ∙ ap word c.refuse_copy.ensures)
 
-returns-2 : tie.Need-returns-2
+returns-2 : tie.Need-returns-in-Done
 returns-2 c =
-    let a = c.before.before.before.before.before.before.before.before.before.before.before.before.before.before.before.before.before.args in
-    let copies = rw c.before.before.before.before.before.before.before.n.given.1 at c.before.before.before.before.before.before.before.before.before.before.before.copy-records.ensures in
-    let room = c.before.before.before.before.before.before.before.before.before.before.before.before.before.if1.false in
-    says-copied a.s.now a.out.now a.left.now room copies (wrote_so refl room c.before.before.before.give.ensures).1 c.told2.ensures
+    let a = c.args in
+    let copies = rw c.in-Done.is at c.copy_records.ensures in
+    let room = c.if-left-lt2.false in
+    says-copied a.s.now a.out.now a.left.now room copies (wrote_so refl room c.give.ensures).1 c.told-in-Done.ensures
 
-returns-3 : tie.Need-returns-3
+returns-3 : tie.Need-returns-in-Refused
 returns-3 c =
-    let a = c.before.before.before.before.before.before.before.before.before.before.before.before.args in
-    let copies = rw c.before.before.f.given.1 at c.before.before.before.before.before.before.copy-records.ensures in
-    says_refused a.s.now a.out.now a.left.now c.before.before.before.before.before.before.before.before.if1.false copies c.told3.ensures
+    let a = c.args in
+    let copies = rw c.in-Refused.is at c.copy_records.ensures in
+    says_refused a.s.now a.out.now a.left.now c.if-left-lt2.false copies c.told-in-Refused.ensures
 
-pub ptp-copy-recording-spec : {M : Type 1} → statement M
-ptp-copy-recording-spec =
+pub ptp_copy_recording_spec : {M : Type 1} → statement M
+ptp_copy_recording_spec =
     tie.close
     (tie.spec
     (λ c κs. search rules)

@@ -7,15 +7,15 @@ use Rattle.abi.proofs.Copying.{or_room, without_room}
 use Rattle.abi.proofs.copied.refuse_copy.Statement.{statement}
 use Rattle.abi.proofs.copied.refuse_copy.Tie as tie
 
-returns : tie.Need-returns
+returns : tie.Need-returns-in-Done
 returns c =
-    let e = heard says_copied c.before.enum_told.given.1 c.before.before.before.before.copy-records.ensures.answers in
-    ap refused c.plain.ensures ∙ ap or_room e ∙ without_room c.before.before.before.before.before.before.before.args.s.now _
+    let e = heard says_copied c.in-Done.is c.copy_records.ensures.answers in
+    ap refused c.plain.ensures ∙ ap or_room e ∙ without_room c.args.s.now _
 
-returns-2 : tie.Need-returns-2
+returns-2 : tie.Need-returns-in-Refused
 returns-2 c =
-    let e = heard says_copied c.before.f.given.1 c.before.before.before.before.copy-records.ensures.answers in
-    ap or_room e ∙ without_room c.before.before.before.before.before.before.before.args.s.now _
+    let e = heard says_copied c.in-Refused.is c.copy_records.ensures.answers in
+    ap or_room e ∙ without_room c.args.s.now _
 
-pub refuse-copy-spec : {M : Type 1} → statement M
-refuse-copy-spec = tie.close (tie.spec (λ c. search rules) (λ c κs. search rules) (λ c. search rules) (λ c κs. search rules) (λ c. search rules) returns returns-2)
+pub refuse_copy_spec : {M : Type 1} → statement M
+refuse_copy_spec = tie.close (tie.spec (λ c. search rules) (λ c κs. search rules) (λ c. search rules) (λ c κs. search rules) (λ c. search rules) returns returns-2)

@@ -3,8 +3,8 @@ use Rattle.std.proofs.Common.{rules}
 use Rattle.abi.proofs.dataset.form_row.Statement.{statement}
 use Rattle.abi.proofs.dataset.form_row.Tie as tie
 
-pub form-row-spec : {M : Type 1} → statement M
-form-row-spec =
+pub form_row_spec : {M : Type 1} → statement M
+form_row_spec =
     tie.close
     (tie.spec
     (λ c. search rules)
@@ -12,5 +12,5 @@ form-row-spec =
     (λ c. search rules)
     (λ c. search rules)
     (λ c. search rules)
-    (λ c. rw c.before.f.given.1)
-    (λ c. rw c.before.f2.given.1))
+    (λ c. rw c.in-Range.is)
+    (λ c. rw c.in-List.is))

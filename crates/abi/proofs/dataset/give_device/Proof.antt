@@ -7,16 +7,16 @@ use Rattle.abi.proofs.laws.Answers.{row_given, row_refused}
 use Rattle.abi.proofs.dataset.give_device.Statement.{statement}
 use Rattle.abi.proofs.dataset.give_device.Tie as tie
 
-returns : tie.Need-returns
+returns : tie.Need-returns-in-Got
 returns c =
-    let r = c.before.before.before.before.before in
-    row_given fields_row (heard says_device r.before.before.x.given.1 r.before.before.before.before.device-info.ensures) r.device-row.ensures c.before.before.give.ensures
+    let r = c in
+    row_given fields_row (heard says_device r.in-Got.is r.device_info.ensures) r.device_row.ensures c.give.ensures
 
-returns-2 : tie.Need-returns-2
-returns-2 c = row_refused fields_row (heard says_device c.before.f.given.1 c.before.before.before.device-info.ensures)
+returns-2 : tie.Need-returns-in-Refused
+returns-2 c = row_refused fields_row (heard says_device c.in-Refused.is c.device_info.ensures)
 
-pub give-device-spec : {M : Type 1} → statement M
-give-device-spec =
+pub give_device_spec : {M : Type 1} → statement M
+give_device_spec =
     tie.close
     (tie.spec
     (λ c κs. search rules)

@@ -7,16 +7,16 @@ use Rattle.abi.proofs.laws.Answers.{row_given, row_refused}
 use Rattle.abi.proofs.dataset.give_object.Statement.{statement}
 use Rattle.abi.proofs.dataset.give_object.Tie as tie
 
-returns : tie.Need-returns
+returns : tie.Need-returns-in-Got
 returns c =
-    let r = c.before.before.before.before.before in
-    row_given fields_row (heard says_object r.before.before.x.given.1 r.before.before.before.before.object-info.ensures) r.object-row.ensures c.before.before.give.ensures
+    let r = c in
+    row_given fields_row (heard says_object r.in-Got.is r.object_info.ensures) r.object_row.ensures c.give.ensures
 
-returns-2 : tie.Need-returns-2
-returns-2 c = row_refused fields_row (heard says_object c.before.f.given.1 c.before.before.before.object-info.ensures)
+returns-2 : tie.Need-returns-in-Refused
+returns-2 c = row_refused fields_row (heard says_object c.in-Refused.is c.object_info.ensures)
 
-pub give-object-spec : {M : Type 1} → statement M
-give-object-spec =
+pub give_object_spec : {M : Type 1} → statement M
+give_object_spec =
     tie.close
     (tie.spec
     (λ c κs. search rules)

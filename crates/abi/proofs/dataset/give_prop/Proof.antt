@@ -7,16 +7,16 @@ use Rattle.abi.proofs.laws.Answers.{row_given, row_refused}
 use Rattle.abi.proofs.dataset.give_prop.Statement.{statement}
 use Rattle.abi.proofs.dataset.give_prop.Tie as tie
 
-returns : tie.Need-returns
+returns : tie.Need-returns-in-Got
 returns c =
-    let r = c.before.before.before.before.before in
-    row_given prop_row (heard says_property r.before.before.x.given.1 r.before.before.before.before.property-info.ensures) r.prop-row.ensures c.before.before.give.ensures
+    let r = c in
+    row_given prop_row (heard says_property r.in-Got.is r.property_info.ensures) r.prop_row.ensures c.give.ensures
 
-returns-2 : tie.Need-returns-2
-returns-2 c = row_refused prop_row (heard says_property c.before.f.given.1 c.before.before.before.property-info.ensures)
+returns-2 : tie.Need-returns-in-Refused
+returns-2 c = row_refused prop_row (heard says_property c.in-Refused.is c.property_info.ensures)
 
-pub give-prop-spec : {M : Type 1} → statement M
-give-prop-spec =
+pub give_prop_spec : {M : Type 1} → statement M
+give_prop_spec =
     tie.close
     (tie.spec
     (λ c κs. search rules)

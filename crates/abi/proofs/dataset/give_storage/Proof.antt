@@ -8,28 +8,28 @@ use Rattle.abi.proofs.laws.Answers.{row_given, row_refused, storage-ends, storag
 use Rattle.abi.proofs.dataset.give_storage.Statement.{statement}
 use Rattle.abi.proofs.dataset.give_storage.Tie as tie
 
-returns : tie.Need-returns
+returns : tie.Need-returns-in-Till
 returns c =
-    let r = c.before.before.before.before.before in
-    let e = r.before.before.before.before in
-    let a = e.before.before.before.before.before.before.before.args in
+    let r = c in
+    let e = r in
+    let a = e.args in
     row_given fields_row
-    (storage-ends a.s.now a.filling (heard says_storage e.before.before.x.given.1 e.before.before.before.before.storage-info.ensures) (heard says_span r.before.before.end.given.1 e.ending.ensures))
-    r.storage-row.ensures c.before.before.give.ensures
+    (storage-ends a.s.now a.filling (heard says_storage e.in-Got.is e.storage_info.ensures) (heard says_span r.in-Till.is e.ending.ensures))
+    r.storage_row.ensures c.give.ensures
 
-returns-2 : tie.Need-returns-2
+returns-2 : tie.Need-returns-in-Refused-ending
 returns-2 c =
-    let e = c.before.before.before in
-    let a = e.before.before.before.before.before.before.before.args in
-    row_refused fields_row (storage-trailed a.s.now a.filling (heard says_storage e.before.before.x.given.1 e.before.before.before.before.storage-info.ensures) (heard says_span c.before.f.given.1 e.ending.ensures))
+    let e = c in
+    let a = e.args in
+    row_refused fields_row (storage-trailed a.s.now a.filling (heard says_storage e.in-Got.is e.storage_info.ensures) (heard says_span c.in-Refused-ending.is e.ending.ensures))
 
-returns-3 : tie.Need-returns-3
+returns-3 : tie.Need-returns-in-Refused
 returns-3 c =
-    let a = c.before.before.before.before.before.before.args in
-    row_refused fields_row (storage_refused a.s.now a.filling (heard says_storage c.before.f2.given.1 c.before.before.before.storage-info.ensures))
+    let a = c.args in
+    row_refused fields_row (storage_refused a.s.now a.filling (heard says_storage c.in-Refused.is c.storage_info.ensures))
 
-pub give-storage-spec : {M : Type 1} → statement M
-give-storage-spec =
+pub give_storage_spec : {M : Type 1} → statement M
+give_storage_spec =
     tie.close
     (tie.spec
     (λ c κs. search rules)

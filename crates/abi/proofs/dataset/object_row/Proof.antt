@@ -3,8 +3,8 @@ use Rattle.std.proofs.Common.{refl, arith, rules}
 use Rattle.abi.proofs.dataset.object_row.Statement.{statement}
 use Rattle.abi.proofs.dataset.object_row.Tie as tie
 
-pub object-row-spec : {M : Type 1} → statement M
-object-row-spec =
+pub object_row_spec : {M : Type 1} → statement M
+object_row_spec =
     tie.close
     (tie.spec
     (λ c. search rules)
@@ -16,10 +16,10 @@ object-row-spec =
     (λ c. search rules)
     (λ c. search rules)
     (λ c. search rules)
-    (λ c. omega (arith, c.struct-known10.given.1.1.1.1.1.1.1.1.1.0))
-    (λ c. omega (arith, c.struct-known11.given.1.1.1.1.1.1.1.1.1.1.0))
-    (λ c. omega (arith, c.struct-known12.given.1.1.1.1.1.1.1.1.1.1.1.0))
-    (λ c. omega (arith, c.struct-known13.given.1.1.1.1.1.1.1.1.1.1.1.1.0))
-    (λ c. omega (arith, c.struct-known14.given.1.1.1.1.1.1.1.1.1.1.1.1.1.0))
-    (λ c. omega (arith, c.struct-known15.given.1.1.1.1.1.1.1.1.1.1.1.1.1.1.0))
+    (λ c. omega (arith, c.struct_known-10-1.given.1.1.1.1.1.1.1.1.1.0))
+    (λ c. omega (arith, c.struct_known-11-1.given.1.1.1.1.1.1.1.1.1.1.0))
+    (λ c. omega (arith, c.struct_known-12-1.given.1.1.1.1.1.1.1.1.1.1.1.0))
+    (λ c. omega (arith, c.struct_known-13-1.given.1.1.1.1.1.1.1.1.1.1.1.1.0))
+    (λ c. omega (arith, c.struct_known-14-1.given.1.1.1.1.1.1.1.1.1.1.1.1.1.0))
+    (λ c. omega (arith, c.struct_known-15-1.given.1.1.1.1.1.1.1.1.1.1.1.1.1.1.0))
     (λ c. refl))

@@ -7,12 +7,12 @@ use Rattle.abi.proofs.dataset.prop_row.Tie as tie
 
 returns : tie.Need-returns
 returns c =
-    let f = c.before.before.before.form-row in
-    let e = c.before.before.before.before.enable-number in
-    rw (e.ensures, spread 7 f.result (ap length f.ensures ∙ form-long (says_form c.before.before.before.before.before.args.x.form)), f.ensures)
+    let f = c.form_row-f in
+    let e = c.enable_number-e in
+    rw (e.ensures, spread 7 f.result (ap length f.ensures ∙ form-long (says_form c.args.x.form)), f.ensures)
 
-pub prop-row-spec : {M : Type 1} → statement M
-prop-row-spec =
+pub prop_row_spec : {M : Type 1} → statement M
+prop_row_spec =
     tie.close
     (tie.spec
     (λ c κs. search rules)

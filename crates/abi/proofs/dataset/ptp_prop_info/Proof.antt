@@ -6,8 +6,8 @@ use Rattle.abi.proofs.dataset.ptp_prop_info.Tie as tie
 
 returns : tie.Need-returns
 returns c =
-    let w = c.before.before.before.give-prop in
-    record { answer = says_written w.result; allows = rw (← c.before.before.before.before.before.named.ensures) w.ensures; told = c.told.ensures }
+    let w = c.give_prop in
+    record { answer = says_written w.result; allows = rw (← c.named.ensures) w.ensures; told = c.told.ensures }
 
-pub ptp-prop-info-spec : {M : Type 1} → statement M
-ptp-prop-info-spec = tie.close (tie.spec (λ c κs. search rules) (λ c κs. search rules) (λ c κs. search rules) (λ c. search rules) returns)
+pub ptp_prop_info_spec : {M : Type 1} → statement M
+ptp_prop_info_spec = tie.close (tie.spec (λ c κs. search rules) (λ c κs. search rules) (λ c κs. search rules) (λ c. search rules) returns)

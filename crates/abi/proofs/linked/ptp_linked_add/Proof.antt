@@ -5,10 +5,10 @@ use Rattle.abi.proofs.linked.ptp_linked_add.Statement.{statement}
 use Rattle.abi.proofs.linked.ptp_linked_add.Tie as tie
 
 returns : tie.Need-returns
-returns c = record { answer = _; allows = c.before.before.before.before.before.before.before.before.before.before.before.before.before.before.before.before.before.before.add-linked.ensures; told = c.told.ensures ∙ ap word c.before.placed.ensures }
+returns c = record { answer = _; allows = c.add_linked.ensures; told = c.told.ensures ∙ ap word c.placed.ensures }
 
-pub ptp-linked-add-spec : {M : Type 1} → statement M
-ptp-linked-add-spec =
+pub ptp_linked_add_spec : {M : Type 1} → statement M
+ptp_linked_add_spec =
     tie.close
     (tie.spec
     (λ c κs. search rules)

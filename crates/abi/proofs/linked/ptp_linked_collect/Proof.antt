@@ -5,10 +5,10 @@ use Rattle.abi.proofs.linked.ptp_linked_collect.Statement.{statement}
 use Rattle.abi.proofs.linked.ptp_linked_collect.Tie as tie
 
 returns : tie.Need-returns
-returns c = record { answer = _; allows = c.before.before.before.before.before.before.before.before.before.before.before.before.before.before.before.before.before.before.collect-linked.ensures; told = c.told.ensures ∙ ap word c.before.counted.ensures }
+returns c = record { answer = _; allows = c.collect_linked.ensures; told = c.told.ensures ∙ ap word c.counted.ensures }
 
-pub ptp-linked-collect-spec : {M : Type 1} → statement M
-ptp-linked-collect-spec =
+pub ptp_linked_collect_spec : {M : Type 1} → statement M
+ptp_linked_collect_spec =
     tie.close
     (tie.spec
     (λ c κs. search rules)

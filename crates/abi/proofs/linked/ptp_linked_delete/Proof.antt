@@ -5,10 +5,10 @@ use Rattle.abi.proofs.linked.ptp_linked_delete.Statement.{statement}
 use Rattle.abi.proofs.linked.ptp_linked_delete.Tie as tie
 
 returns : tie.Need-returns
-returns c = record { answer = _; allows = c.before.before.before.before.before.before.before.before.delete-linked.ensures; told = c.told.ensures ∙ ap word c.before.counted.ensures }
+returns c = record { answer = _; allows = c.delete_linked.ensures; told = c.told.ensures ∙ ap word c.counted.ensures }
 
-pub ptp-linked-delete-spec : {M : Type 1} → statement M
-ptp-linked-delete-spec =
+pub ptp_linked_delete_spec : {M : Type 1} → statement M
+ptp_linked_delete_spec =
     tie.close
     (tie.spec
     (λ c κs. search rules)

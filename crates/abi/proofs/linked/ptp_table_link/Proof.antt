@@ -5,10 +5,10 @@ use Rattle.abi.proofs.linked.ptp_table_link.Statement.{statement}
 use Rattle.abi.proofs.linked.ptp_table_link.Tie as tie
 
 returns : tie.Need-returns
-returns c = record { answer = _; allows = c.before.before.before.before.before.before.link.ensures; told = c.told.ensures ∙ ap word c.before.counted.ensures }
+returns c = record { answer = _; allows = c.link.ensures; told = c.told.ensures ∙ ap word c.counted.ensures }
 
-pub ptp-table-link-spec : {M : Type 1} → statement M
-ptp-table-link-spec =
+pub ptp_table_link_spec : {M : Type 1} → statement M
+ptp_table_link_spec =
     tie.close
     (tie.spec
     (λ c κs. search rules)

@@ -4,23 +4,23 @@ use Rattle.abi.proofs.Counted.{counted_short, counted_done, counted_refused}
 use Rattle.abi.proofs.mended.ptp_mend_recording.Statement.{statement}
 use Rattle.abi.proofs.mended.ptp_mend_recording.Tie as tie
 
-returns : tie.Need-returns
+returns : tie.Need-returns-then-counts-eq0
 returns c =
-    let a = c.before.before.before.before.before.before.before.before.args in
-    counted_short a.s.now a.out.now a.starts.now a.lengths.now a.counts.now (omega (arith, c.before.before.if1.true)) c.before.plain.ensures c.told.ensures
+    let a = c.args in
+    counted_short a.s.now a.out.now a.starts.now a.lengths.now a.counts.now (omega (arith, c.if-counts-eq0.true)) c.plain.ensures c.told.ensures
 
-returns-2 : tie.Need-returns-2
+returns-2 : tie.Need-returns-in-Done
 returns-2 c =
-    let a = c.before.before.before.before.before.before.before.before.before.before.before.before.before.before.before.before.before.before.before.before.args in
-    counted_done a.s.now a.out.now a.starts.now a.lengths.now a.counts.now (omega (arith, c.before.before.before.before.before.before.before.before.before.before.before.before.before.before.if1.false)) (rw c.before.before.n.given.1 at c.before.before.before.before.before.before.before.before.before.before.mend.ensures) c.told2.ensures
+    let a = c.args in
+    counted_done a.s.now a.out.now a.starts.now a.lengths.now a.counts.now (omega (arith, c.if-counts-eq0.false)) (rw c.in-Done.is at c.mend.ensures) c.told-in-Done.ensures
 
-returns-3 : tie.Need-returns-3
+returns-3 : tie.Need-returns-in-Refused
 returns-3 c =
-    let a = c.before.before.before.before.before.before.before.before.before.before.before.before.before.before.before.before.before.before.before.before.args in
-    counted_refused a.s.now a.out.now a.starts.now a.lengths.now a.counts.now (omega (arith, c.before.before.before.before.before.before.before.before.before.before.before.before.before.before.if1.false)) (rw c.before.before.f.given.1 at c.before.before.before.before.before.before.before.before.before.before.mend.ensures) c.told3.ensures
+    let a = c.args in
+    counted_refused a.s.now a.out.now a.starts.now a.lengths.now a.counts.now (omega (arith, c.if-counts-eq0.false)) (rw c.in-Refused.is at c.mend.ensures) c.told-in-Refused.ensures
 
-pub ptp-mend-recording-spec : {M : Type 1} → statement M
-ptp-mend-recording-spec =
+pub ptp_mend_recording_spec : {M : Type 1} → statement M
+ptp_mend_recording_spec =
     tie.close
     (tie.spec
     (λ c κs. search rules)

@@ -4,10 +4,10 @@ use Rattle.abi.specs.Rows.{place_word}
 use Rattle.abi.proofs.name.ptp_command_place.Statement.{statement}
 use Rattle.abi.proofs.name.ptp_command_place.Tie as tie
 
-pub ptp-command-place-spec : {M : Type 1} → statement M
-ptp-command-place-spec =
+pub ptp_command_place_spec : {M : Type 1} → statement M
+ptp_command_place_spec =
     tie.close
     (tie.spec
     (λ c κs. search rules)
     (λ c κs. search rules)
-    (λ c. c.place.ensures ∙ ap place_word c.before.command-name.ensures))
+    (λ c. c.place.ensures ∙ ap place_word c.command_name.ensures))

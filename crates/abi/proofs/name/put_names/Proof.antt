@@ -10,17 +10,17 @@ names_long : length name_bytes ≡ 975
 unfolding name_bytes responses commands
 names_long = refl
 
-returns : tie.Need-returns
-returns c = no_room {bs = name_bytes} refl (omega (arith, names_long, c.before.if1.true)) c.plain.ensures
+returns : tie.Need-returns-then-out-lt975
+returns c = no_room {bs = name_bytes} refl (omega (arith, names_long, c.if-out-lt975.true)) c.plain.ensures
 
-returns-2 : tie.Need-returns-2
+returns-2 : tie.Need-returns
 returns-2 c =
-    let room : 975 ≤ length c.before.before.before.before.before.before.before.before.args.out.now = c.before.before.before.before.before.if1.false in
+    let room : 975 ≤ length c.args.out.now = c.if-out-lt975.false in
     let all : take 975 name_bytes ≡ name_bytes = take_all 975 name_bytes (omega (arith, names_long)) in
-    done {bs = name_bytes} refl (omega (arith, names_long, room)) (first (omega (arith, names_long, room)) (rw (c.before.before.before.before.before.before.name-bytes.ensures, all) at c.before.before.copy.ensures))
+    done {bs = name_bytes} refl (omega (arith, names_long, room)) (first (omega (arith, names_long, room)) (rw (c.name_bytes-all.ensures, all) at c.copy.ensures))
 
-pub put-names-spec : {M : Type 1} → statement M
-put-names-spec =
+pub put_names_spec : {M : Type 1} → statement M
+put_names_spec =
     tie.close
     (tie.spec
     (λ c κs. search rules)

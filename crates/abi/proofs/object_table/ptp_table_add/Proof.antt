@@ -5,10 +5,10 @@ use Rattle.abi.proofs.object_table.ptp_table_add.Statement.{statement}
 use Rattle.abi.proofs.object_table.ptp_table_add.Tie as tie
 
 returns : tie.Need-returns
-returns c = record { answer = _; allows = c.before.before.before.before.before.before.before.before.before.before.before.before.before.before.add.ensures; told = c.told.ensures ∙ ap word c.before.placed.ensures }
+returns c = record { answer = _; allows = c.add.ensures; told = c.told.ensures ∙ ap word c.placed.ensures }
 
-pub ptp-table-add-spec : {M : Type 1} → statement M
-ptp-table-add-spec =
+pub ptp_table_add_spec : {M : Type 1} → statement M
+ptp_table_add_spec =
     tie.close
     (tie.spec
     (λ c κs. search rules)

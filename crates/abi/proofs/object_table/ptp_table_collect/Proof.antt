@@ -5,10 +5,10 @@ use Rattle.abi.proofs.object_table.ptp_table_collect.Statement.{statement}
 use Rattle.abi.proofs.object_table.ptp_table_collect.Tie as tie
 
 returns : tie.Need-returns
-returns c = record { answer = _; allows = c.before.before.before.before.before.before.before.before.before.before.before.before.before.before.collect.ensures; told = c.told.ensures ∙ ap word c.before.counted.ensures }
+returns c = record { answer = _; allows = c.collect.ensures; told = c.told.ensures ∙ ap word c.counted.ensures }
 
-pub ptp-table-collect-spec : {M : Type 1} → statement M
-ptp-table-collect-spec =
+pub ptp_table_collect_spec : {M : Type 1} → statement M
+ptp_table_collect_spec =
     tie.close
     (tie.spec
     (λ c κs. search rules)

@@ -5,10 +5,10 @@ use Rattle.abi.proofs.object_table.ptp_table_delete.Statement.{statement}
 use Rattle.abi.proofs.object_table.ptp_table_delete.Tie as tie
 
 returns : tie.Need-returns
-returns c = record { answer = _; allows = c.before.before.before.before.delete.ensures; told = c.told.ensures ∙ ap word c.before.counted.ensures }
+returns c = record { answer = _; allows = c.delete.ensures; told = c.told.ensures ∙ ap word c.counted.ensures }
 
-pub ptp-table-delete-spec : {M : Type 1} → statement M
-ptp-table-delete-spec =
+pub ptp_table_delete_spec : {M : Type 1} → statement M
+ptp_table_delete_spec =
     tie.close
     (tie.spec
     (λ c κs. search rules)

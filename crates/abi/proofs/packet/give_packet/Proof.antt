@@ -7,14 +7,14 @@ use Rattle.abi.proofs.laws.Answers.{row_given, row_refused}
 use Rattle.abi.proofs.packet.give_packet.Statement.{statement}
 use Rattle.abi.proofs.packet.give_packet.Tie as tie
 
-returns : tie.Need-returns
-returns c = row_given packet_row (heard says_packet c.before.before.before.before.before.before.before.x.given.1 c.before.before.before.before.before.before.before.before.before.read-packet.ensures) c.before.before.before.before.before.packet-row.ensures c.before.before.give.ensures
+returns : tie.Need-returns-in-Got
+returns c = row_given packet_row (heard says_packet c.in-Got.is c.read_packet.ensures) c.packet_row.ensures c.give.ensures
 
-returns-2 : tie.Need-returns-2
-returns-2 c = row_refused packet_row (heard says_packet c.before.f.given.1 c.before.before.before.read-packet.ensures)
+returns-2 : tie.Need-returns-in-Refused
+returns-2 c = row_refused packet_row (heard says_packet c.in-Refused.is c.read_packet.ensures)
 
-pub give-packet-spec : {M : Type 1} → statement M
-give-packet-spec =
+pub give_packet_spec : {M : Type 1} → statement M
+give_packet_spec =
     tie.close
     (tie.spec
     (λ c κs. search rules)

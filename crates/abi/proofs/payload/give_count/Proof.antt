@@ -7,14 +7,14 @@ use Rattle.abi.proofs.laws.Answers.{row_given, row_refused}
 use Rattle.abi.proofs.payload.give_count.Statement.{statement}
 use Rattle.abi.proofs.payload.give_count.Tie as tie
 
-returns : tie.Need-returns
-returns c = row_given number_row (heard says_u32 c.before.before.before.before.before.before.n.given.1 c.before.before.before.before.before.before.before.before.object-count.ensures) refl c.before.before.give.ensures
+returns : tie.Need-returns-in-Got
+returns c = row_given number_row (heard says_u32 c.in-Got.is c.object_count.ensures) refl c.give.ensures
 
-returns-2 : tie.Need-returns-2
-returns-2 c = row_refused number_row (heard says_u32 c.before.f.given.1 c.before.before.before.object-count.ensures)
+returns-2 : tie.Need-returns-in-Refused
+returns-2 c = row_refused number_row (heard says_u32 c.in-Refused.is c.object_count.ensures)
 
-pub give-count-spec : {M : Type 1} → statement M
-give-count-spec =
+pub give_count_spec : {M : Type 1} → statement M
+give_count_spec =
     tie.close
     (tie.spec
     (λ c κs. search rules)

@@ -7,14 +7,14 @@ use Rattle.abi.proofs.laws.Answers.{row_given, row_refused}
 use Rattle.abi.proofs.payload.give_handles.Statement.{statement}
 use Rattle.abi.proofs.payload.give_handles.Tie as tie
 
-returns : tie.Need-returns
-returns c = row_given part_row (heard says_part c.before.before.before.before.before.before.p.given.1 c.before.before.before.before.before.before.before.before.object-handles.ensures) refl c.before.before.give.ensures
+returns : tie.Need-returns-in-Got
+returns c = row_given part_row (heard says_part c.in-Got.is c.object_handles.ensures) refl c.give.ensures
 
-returns-2 : tie.Need-returns-2
-returns-2 c = row_refused part_row (heard says_part c.before.f.given.1 c.before.before.before.object-handles.ensures)
+returns-2 : tie.Need-returns-in-Refused
+returns-2 c = row_refused part_row (heard says_part c.in-Refused.is c.object_handles.ensures)
 
-pub give-handles-spec : {M : Type 1} → statement M
-give-handles-spec =
+pub give_handles_spec : {M : Type 1} → statement M
+give_handles_spec =
     tie.close
     (tie.spec
     (λ c κs. search rules)

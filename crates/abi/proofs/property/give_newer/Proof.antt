@@ -4,10 +4,10 @@ use Rattle.abi.proofs.property.give_newer.Statement.{statement}
 use Rattle.abi.proofs.property.give_newer.Tie as tie
 
 returns : tie.Need-returns
-returns c = rw (← c.before.before.before.before.before.before.newer-place.ensures) c.before.before.give.ensures
+returns c = rw (← c.newer_place-c.ensures) c.give.ensures
 
-pub give-newer-spec : {M : Type 1} → statement M
-give-newer-spec =
+pub give_newer_spec : {M : Type 1} → statement M
+give_newer_spec =
     tie.close
     (tie.spec
     (λ c κs. search rules)

@@ -7,16 +7,16 @@ use Rattle.abi.proofs.laws.Answers.{row_given, row_refused}
 use Rattle.abi.proofs.property.give_value.Statement.{statement}
 use Rattle.abi.proofs.property.give_value.Tie as tie
 
-returns : tie.Need-returns
+returns : tie.Need-returns-in-Got
 returns c =
-    let v = c.before.before.before.before.before.before in
-    row_given slot_row (heard says_nth v.p.given.1 v.before.before.nth.ensures) refl c.before.before.give.ensures
+    let v = c in
+    row_given slot_row (heard says_nth v.in-Got.is v.nth.ensures) refl c.give.ensures
 
-returns-2 : tie.Need-returns-2
-returns-2 c = row_refused slot_row (heard says_nth c.before.f.given.1 c.before.before.before.nth.ensures)
+returns-2 : tie.Need-returns-in-Refused
+returns-2 c = row_refused slot_row (heard says_nth c.in-Refused.is c.nth.ensures)
 
-pub give-value-spec : {M : Type 1} → statement M
-give-value-spec =
+pub give_value_spec : {M : Type 1} → statement M
+give_value_spec =
     tie.close
     (tie.spec
     (λ c κs. search rules)

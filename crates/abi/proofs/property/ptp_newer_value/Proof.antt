@@ -6,8 +6,8 @@ use Rattle.abi.proofs.property.ptp_newer_value.Tie as tie
 
 returns : tie.Need-returns
 returns c =
-    let w = c.before.before.before.give-newer in
-    record { answer = says_written w.result; allows = rw (← c.before.before.before.before.before.named.ensures) w.ensures; told = c.told.ensures }
+    let w = c.give_newer in
+    record { answer = says_written w.result; allows = rw (← c.named.ensures) w.ensures; told = c.told.ensures }
 
-pub ptp-newer-value-spec : {M : Type 1} → statement M
-ptp-newer-value-spec = tie.close (tie.spec (λ c κs. search rules) (λ c κs. search rules) (λ c κs. search rules) (λ c. search rules) returns)
+pub ptp_newer_value_spec : {M : Type 1} → statement M
+ptp_newer_value_spec = tie.close (tie.spec (λ c κs. search rules) (λ c κs. search rules) (λ c κs. search rules) (λ c. search rules) returns)

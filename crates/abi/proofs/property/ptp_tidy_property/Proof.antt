@@ -6,8 +6,8 @@ use Rattle.abi.proofs.property.ptp_tidy_property.Tie as tie
 
 returns : tie.Need-returns
 returns c =
-    let w = c.before.before.before.tidy-property in
-    record { answer = says_written w.result; allows = rw (← c.before.before.before.before.before.named.ensures) w.ensures; told = c.told.ensures }
+    let w = c.tidy_property in
+    record { answer = says_written w.result; allows = rw (← c.named.ensures) w.ensures; told = c.told.ensures }
 
-pub ptp-tidy-property-spec : {M : Type 1} → statement M
-ptp-tidy-property-spec = tie.close (tie.spec (λ c κs. search rules) (λ c κs. search rules) (λ c κs. search rules) (λ c. search rules) returns)
+pub ptp_tidy_property_spec : {M : Type 1} → statement M
+ptp_tidy_property_spec = tie.close (tie.spec (λ c κs. search rules) (λ c κs. search rules) (λ c κs. search rules) (λ c. search rules) returns)

@@ -7,14 +7,14 @@ use Rattle.abi.proofs.laws.Answers.{row_given, row_refused}
 use Rattle.abi.proofs.record.give_container.Statement.{statement}
 use Rattle.abi.proofs.record.give_container.Tie as tie
 
-returns : tie.Need-returns
-returns c = row_given container_row (heard says_container c.before.before.before.before.before.before.before.x.given.1 c.before.before.before.before.before.before.before.before.before.read-container.ensures) c.before.before.before.before.before.placed-container.ensures c.before.before.give.ensures
+returns : tie.Need-returns-in-Got
+returns c = row_given container_row (heard says_container c.in-Got.is c.read_container.ensures) c.placed_container.ensures c.give.ensures
 
-returns-2 : tie.Need-returns-2
-returns-2 c = row_refused container_row (heard says_container c.before.f.given.1 c.before.before.before.read-container.ensures)
+returns-2 : tie.Need-returns-in-Refused
+returns-2 c = row_refused container_row (heard says_container c.in-Refused.is c.read_container.ensures)
 
-pub give-container-spec : {M : Type 1} → statement M
-give-container-spec =
+pub give_container_spec : {M : Type 1} → statement M
+give_container_spec =
     tie.close
     (tie.spec
     (λ c κs. search rules)

@@ -7,16 +7,16 @@ use Rattle.abi.proofs.laws.Answers.{row_given, row_refused}
 use Rattle.abi.proofs.record.give_record.Statement.{statement}
 use Rattle.abi.proofs.record.give_record.Tie as tie
 
-returns : tie.Need-returns
+returns : tie.Need-returns-in-Got
 returns c =
-    let r = c.before.before.before.before.before in
-    row_given record_row (heard says_record r.before.before.x.given.1 r.before.before.before.before.read-record.ensures) r.record-row.ensures c.before.before.give.ensures
+    let r = c in
+    row_given record_row (heard says_record r.in-Got.is r.read_record.ensures) r.record_row.ensures c.give.ensures
 
-returns-2 : tie.Need-returns-2
-returns-2 c = row_refused record_row (heard says_record c.before.f.given.1 c.before.before.before.read-record.ensures)
+returns-2 : tie.Need-returns-in-Refused
+returns-2 c = row_refused record_row (heard says_record c.in-Refused.is c.read_record.ensures)
 
-pub give-record-spec : {M : Type 1} → statement M
-give-record-spec =
+pub give_record_spec : {M : Type 1} → statement M
+give_record_spec =
     tie.close
     (tie.spec
     (λ c κs. search rules)

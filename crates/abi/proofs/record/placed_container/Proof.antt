@@ -3,8 +3,8 @@ use Rattle.std.proofs.Common.{rules}
 use Rattle.abi.proofs.record.placed_container.Statement.{statement}
 use Rattle.abi.proofs.record.placed_container.Tie as tie
 
-pub placed-container-spec : {M : Type 1} → statement M
-placed-container-spec =
+pub placed_container_spec : {M : Type 1} → statement M
+placed_container_spec =
     tie.close
     (tie.spec
     (λ c κs. search rules)
@@ -13,4 +13,4 @@ placed-container-spec =
     (λ c. search rules)
     (λ c. search rules)
     (λ c. search rules)
-    (λ c. rw c.container-row.ensures))
+    (λ c. rw c.container_row-c.ensures))

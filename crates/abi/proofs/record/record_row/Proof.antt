@@ -7,11 +7,11 @@ use Rattle.abi.proofs.record.record_row.Tie as tie
 
 returns : tie.Need-returns
 returns c =
-    let x = c.before.content-row in
-    rw (spread 5 x.result (ap length x.ensures ∙ content-long (says_content c.before.before.args.x.content)), x.ensures)
+    let x = c.content_row-c in
+    rw (spread 5 x.result (ap length x.ensures ∙ content-long (says_content c.args.x.content)), x.ensures)
 
-pub record-row-spec : {M : Type 1} → statement M
-record-row-spec =
+pub record_row_spec : {M : Type 1} → statement M
+record_row_spec =
     tie.close
     (tie.spec
     (λ c κs. search rules)

@@ -15,14 +15,14 @@ count-given e w = rw (← e) w
 count_refused : {x : Answer ℕ} {t : Told} {old : List ℕ} → refused t ≡ x → Wrote (counted x) old (refused t) old
 count_refused e = refusal (rw (← e))
 
-returns : tie.Need-returns
-returns c = count-given (heard says_recording c.before.before.before.before.before.before.n.given.1 c.before.before.before.before.before.before.before.before.read-recording.ensures) c.before.before.give.ensures
+returns : tie.Need-returns-in-Got
+returns c = count-given (heard says_recording c.in-Got.is c.read_recording.ensures) c.give.ensures
 
-returns-2 : tie.Need-returns-2
-returns-2 c = count_refused (heard says_recording c.before.f.given.1 c.before.before.before.read-recording.ensures)
+returns-2 : tie.Need-returns-in-Refused
+returns-2 c = count_refused (heard says_recording c.in-Refused.is c.read_recording.ensures)
 
-pub give-records-spec : {M : Type 1} → statement M
-give-records-spec =
+pub give_records_spec : {M : Type 1} → statement M
+give_records_spec =
     tie.close
     (tie.spec
     (λ c κs. search rules)

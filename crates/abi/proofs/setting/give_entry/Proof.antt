@@ -7,16 +7,16 @@ use Rattle.std.proofs.Common.{rules}
 use Rattle.abi.proofs.setting.give_entry.Statement.{statement}
 use Rattle.abi.proofs.setting.give_entry.Tie as tie
 
-returns : tie.Need-returns
+returns : tie.Need-returns-in-Got
 returns c =
-    let r = c.before.before.before.before.before in
-    row_given entry_row (heard says_entry r.before.before.x.given.1 r.before.before.before.before.entry_at.ensures) r.entry_row.ensures c.before.before.give.ensures
+    let r = c in
+    row_given entry_row (heard says_entry r.in-Got.is r.entry_at.ensures) r.entry_row.ensures c.give.ensures
 
-returns-2 : tie.Need-returns-2
-returns-2 c = row_refused entry_row (heard says_entry c.before.f.given.1 c.before.before.before.entry_at.ensures)
+returns-2 : tie.Need-returns-in-Refused
+returns-2 c = row_refused entry_row (heard says_entry c.in-Refused.is c.entry_at.ensures)
 
-pub give-entry-spec : {M : Type 1} → statement M
-give-entry-spec =
+pub give_entry_spec : {M : Type 1} → statement M
+give_entry_spec =
     tie.close
     (tie.spec
     (λ c κs. search rules)

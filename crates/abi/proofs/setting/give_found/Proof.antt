@@ -4,17 +4,17 @@ use Rattle.abi.proofs.Kept.{found_given, found_none, found_refused}
 use Rattle.abi.proofs.setting.give_found.Statement.{statement}
 use Rattle.abi.proofs.setting.give_found.Tie as tie
 
-returns : tie.Need-returns
-returns c = found_given (sym c.before.before.before.before.before.before.before.before.before.before.find.ensures ∙ c.before.before.before.before.before.before.before.before.x.given.1) c.before.before.give.ensures
+returns : tie.Need-returns-in-Held
+returns c = found_given (sym c.find.ensures ∙ c.in-Held.is) c.give.ensures
 
-returns-2 : tie.Need-returns-2
-returns-2 c = found_none (sym c.before.before.find.ensures ∙ c.enum_told.given.1)
+returns-2 : tie.Need-returns-in-NotHeld
+returns-2 c = found_none (sym c.find.ensures ∙ c.in-NotHeld.is)
 
-returns-3 : tie.Need-returns-3
-returns-3 c = found_refused (sym c.before.before.before.find.ensures ∙ c.before.f.given.1)
+returns-3 : tie.Need-returns-in-Refused
+returns-3 c = found_refused (sym c.find.ensures ∙ c.in-Refused.is)
 
-pub give-found-spec : {M : Type 1} → statement M
-give-found-spec =
+pub give_found_spec : {M : Type 1} → statement M
+give_found_spec =
     tie.close
     (tie.spec
     (λ c κs. search rules)

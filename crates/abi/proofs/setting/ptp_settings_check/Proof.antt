@@ -7,8 +7,8 @@ use Rattle.abi.proofs.setting.ptp_settings_check.Statement.{statement}
 use Rattle.abi.proofs.setting.ptp_settings_check.Tie as tie
 
 returns : tie.Need-returns
-returns c = c.told.ensures ∙ ap word (c.before.count.ensures ∙ ap (λ e. counted (row_of e c.before.before.before.before.args.row.now)) c.before.before.edition.ensures)
+returns c = c.told.ensures ∙ ap word (c.count.ensures ∙ ap (λ e. counted (row_of e c.args.row.now)) c.edition.ensures)
 
-pub ptp-settings-check-spec : {M : Type 1} → statement M
-ptp-settings-check-spec =
+pub ptp_settings_check_spec : {M : Type 1} → statement M
+ptp_settings_check_spec =
     tie.close (tie.spec (λ c κs. search rules) (λ c κs. search rules) (λ c κs. search rules) returns)

@@ -6,9 +6,9 @@ use Rattle.abi.proofs.setting.ptp_settings_entry.Tie as tie
 
 returns : tie.Need-returns
 returns c =
-    let w = c.before.before.before.give-entry in
-    record { answer = says_written w.result; allows = rw (← c.before.before.before.before.before.edition.ensures) w.ensures; told = c.told.ensures }
+    let w = c.give_entry in
+    record { answer = says_written w.result; allows = rw (← c.edition.ensures) w.ensures; told = c.told.ensures }
 
-pub ptp-settings-entry-spec : {M : Type 1} → statement M
-ptp-settings-entry-spec =
+pub ptp_settings_entry_spec : {M : Type 1} → statement M
+ptp_settings_entry_spec =
     tie.close (tie.spec (λ c κs. search rules) (λ c κs. search rules) (λ c κs. search rules) (λ c. search rules) returns)

@@ -6,8 +6,8 @@ use Rattle.abi.proofs.setting.ptp_settings_remove.Tie as tie
 
 returns : tie.Need-returns
 returns c =
-    let w = c.before.before.before.remove in
-    record { answer = says_written w.result; allows = rw (← c.before.before.before.before.before.edition.ensures) w.ensures; told = c.told.ensures }
+    let w = c.remove in
+    record { answer = says_written w.result; allows = rw (← c.edition.ensures) w.ensures; told = c.told.ensures }
 
-pub ptp-settings-remove-spec : {M : Type 1} → statement M
-ptp-settings-remove-spec = tie.close (tie.spec (λ c κs. search rules) (λ c κs. search rules) (λ c κs. search rules) (λ c. search rules) returns)
+pub ptp_settings_remove_spec : {M : Type 1} → statement M
+ptp_settings_remove_spec = tie.close (tie.spec (λ c κs. search rules) (λ c κs. search rules) (λ c κs. search rules) (λ c. search rules) returns)

@@ -6,8 +6,8 @@ use Rattle.abi.proofs.setting.ptp_settings_write.Tie as tie
 
 returns : tie.Need-returns
 returns c =
-    let w = c.before.before.before.write-entry in
+    let w = c.write_entry in
     record { answer = says_written w.result; allows = w.ensures; told = c.told.ensures }
 
-pub ptp-settings-write-spec : {M : Type 1} → statement M
-ptp-settings-write-spec = tie.close (tie.spec (λ c κs. search rules) (λ c κs. search rules) (λ c. search rules) returns)
+pub ptp_settings_write_spec : {M : Type 1} → statement M
+ptp_settings_write_spec = tie.close (tie.spec (λ c κs. search rules) (λ c κs. search rules) (λ c. search rules) returns)

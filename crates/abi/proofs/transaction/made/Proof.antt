@@ -3,14 +3,14 @@ use Rattle.std.proofs.Common.{rules}
 use Rattle.abi.proofs.transaction.made.Statement.{statement}
 use Rattle.abi.proofs.transaction.made.Tie as tie
 
-returns : tie.Need-returns
-returns c = rw c.before.before.before.before.before.if1.true (rw c.before.before.before.before.command-of.ensures at c.before.before.command-with-data.ensures)
+returns : tie.Need-returns-then-with_data
+returns c = rw c.if-with_data.true (rw c.command_of.ensures at c.command_with_data.ensures)
 
-returns-2 : tie.Need-returns-2
-returns-2 c = rw c.before.before.before.before.before.if1.false (rw c.before.before.before.before.command-of2.ensures at c.before.before.command.ensures)
+returns-2 : tie.Need-returns
+returns-2 c = rw c.if-with_data.false (rw c.command_of-2.ensures at c.command.ensures)
 
-pub made-spec : {M : Type 1} → statement M
-made-spec =
+pub made_spec : {M : Type 1} → statement M
+made_spec =
     tie.close
     (tie.spec
     (λ c κs. search rules)

@@ -6,12 +6,12 @@ use Rattle.abi.proofs.transaction.ptp_set_value.Tie as tie
 
 returns : tie.Need-returns
 returns c =
-    let m = c.before.before.before.set_value in
+    let m = c.set_value in
     record {
       answer = says_made m.result;
-      allows = record { sent = record { makes = rw (← c.before.before.before.before.before.named.ensures) m.ensures; number = c.spoken.ensures.0 }; parted = c.spoken.ensures.1 };
-      told = c.spoken.ensures.2;
+      allows = record { sent = record { makes = rw (← c.named.ensures) m.ensures; number = c.spoken-s.ensures.0 }; parted = c.spoken-s.ensures.1 };
+      told = c.spoken-s.ensures.2;
     }
 
-pub ptp-set-value-spec : {M : Type 1} → statement M
-ptp-set-value-spec = tie.close (tie.spec (λ c κs. search rules) (λ c κs. search rules) (λ c κs. search rules) (λ c. search rules) returns)
+pub ptp_set_value_spec : {M : Type 1} → statement M
+ptp_set_value_spec = tie.close (tie.spec (λ c κs. search rules) (λ c κs. search rules) (λ c κs. search rules) (λ c. search rules) returns)

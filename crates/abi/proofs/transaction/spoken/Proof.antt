@@ -12,22 +12,22 @@ few n = go (leb n 5) refl
     go true e = leb-true n 5 e
     go false e = lit≤ tt
 
-mul-t10 : tie.Need-overflow-mul-t10
-mul-t10 c = record { fits = omega (arith, few c.before.before.before.before.args.params, c.least.ensures) }
+mul-t10 : tie.Need-overflow_mul-result
+mul-t10 c = record { fits = omega (arith, few c.args.params, c.least.ensures) }
 
-add-t11 : tie.Need-overflow-add-t11
-add-t11 c = record { fits = omega (arith, few c.before.before.before.before.args.params, c.least.ensures) }
+add-t11 : tie.Need-overflow_add-result
+add-t11 c = record { fits = omega (arith, few c.args.params, c.least.ensures) }
 
-returns : tie.Need-returns
+returns : tie.Need-returns-in-Done
 unfolding word
-returns c = (rw c.before.before.before.m.given.1, rw c.before.before.before.m.given.1 (ap (λ n. 12 + 4 * n) c.before.least.ensures), rw c.before.before.before.m.given.1 c.told.ensures)
+returns c = (rw c.in-Done.is, rw c.in-Done.is (ap (λ n. 12 + 4 * n) c.least.ensures), rw c.in-Done.is c.told.ensures)
 
-returns-2 : tie.Need-returns-2
+returns-2 : tie.Need-returns-in-Refused
 unfolding word
-returns-2 c = (rw c.before.before.m2.given.1, rw c.before.before.m2.given.1, rw c.before.before.m2.given.1 c.told2.ensures)
+returns-2 c = (rw c.in-Refused.is, rw c.in-Refused.is, rw c.in-Refused.is c.told-in-Refused.ensures)
 
-pub spoken-spec : {M : Type 1} → statement M
-spoken-spec =
+pub spoken_spec : {M : Type 1} → statement M
+spoken_spec =
     tie.close
     (tie.spec
     (λ c. search rules)

@@ -6,11 +6,11 @@ use Rattle.abi.proofs.laws.Answers.{row_given, row_refused}
 use Rattle.abi.proofs.value.give_read.Statement.{statement}
 use Rattle.abi.proofs.value.give_read.Tie as tie
 
-returns : tie.Need-returns
-returns c = row_given value_row (sym (ap says_value c.before.before.before.before.before.before.before.r.given.1)) c.before.before.before.before.before.Placed-row.ensures c.before.before.give.ensures
+returns : tie.Need-returns-in-Got
+returns c = row_given value_row (sym (ap says_value c.in-Got.is)) c.placed_row.ensures c.give.ensures
 
-pub give-read-spec : {M : Type 1} → statement M
-give-read-spec =
+pub give_read_spec : {M : Type 1} → statement M
+give_read_spec =
     tie.close
     (tie.spec
     (λ c. search rules)
@@ -20,4 +20,4 @@ give-read-spec =
     (λ c. search rules)
     (λ c. search rules)
     returns
-    (λ c. row_refused value_row (sym (ap says_value c.before.r2.given.1))))
+    (λ c. row_refused value_row (sym (ap says_value c.in-Refused.is))))

@@ -7,14 +7,14 @@ use Rattle.abi.specs.Rows.{step_said}
 use Rattle.abi.proofs.value.give_step.Statement.{statement}
 use Rattle.abi.proofs.value.give_step.Tie as tie
 
-returns : tie.Need-returns
-returns c = rw (← heard says_step c.before.before.before.before.before.before.before.v.given.1 c.before.before.before.before.before.before.before.before.before.step-at.ensures, ← c.before.before.before.before.before.step_row.ensures) c.before.before.give.ensures
+returns : tie.Need-returns-in-Next
+returns c = rw (← heard says_step c.in-Next.is c.step_at.ensures, ← c.step_row.ensures) c.give.ensures
 
-returns-2 : tie.Need-returns-2
-returns-2 c = done (sym (ap step_said (heard says_step c.enum_told.given.1 c.before.before.step-at.ensures))) (omega arith) nothing
+returns-2 : tie.Need-returns-in-End
+returns-2 c = done (sym (ap step_said (heard says_step c.in-End.is c.step_at.ensures))) (omega arith) nothing
 
-pub give-step-spec : {M : Type 1} → statement M
-give-step-spec =
+pub give_step_spec : {M : Type 1} → statement M
+give_step_spec =
     tie.close
     (tie.spec
     (λ c κs. search rules)

@@ -7,11 +7,11 @@ use Rattle.abi.proofs.laws.Answers.{row_given, row_refused}
 use Rattle.abi.proofs.value.give_unit.Statement.{statement}
 use Rattle.abi.proofs.value.give_unit.Tie as tie
 
-returns : tie.Need-returns
-returns c = row_given number_row (heard says_u16 c.before.before.before.before.before.before.u.given.1 c.before.before.before.before.before.before.before.before.unit.ensures) refl c.before.before.give.ensures
+returns : tie.Need-returns-in-Got
+returns c = row_given number_row (heard says_u16 c.in-Got.is c.unit.ensures) refl c.give.ensures
 
-pub give-unit-spec : {M : Type 1} → statement M
-give-unit-spec =
+pub give_unit_spec : {M : Type 1} → statement M
+give_unit_spec =
     tie.close
     (tie.spec
     (λ c κs. search rules)
@@ -22,4 +22,4 @@ give-unit-spec =
     (λ c. search rules)
     (λ c. search rules)
     returns
-    (λ c. row_refused number_row (heard says_u16 c.before.f.given.1 c.before.before.before.unit.ensures)))
+    (λ c. row_refused number_row (heard says_u16 c.in-Refused.is c.unit.ensures)))

@@ -7,8 +7,8 @@ use Rattle.abi.proofs.value.placed_row.Tie as tie
 
 returns : tie.Need-returns
 returns c =
-    let x = c.Value-row in
-    rw (spread 3 x.result (ap length x.ensures ∙ value-long (located c.before.args.v)), x.ensures)
+    let x = c.value_row-x in
+    rw (spread 3 x.result (ap length x.ensures ∙ value-long (located c.args.v)), x.ensures)
 
-pub placed-row-spec : {M : Type 1} → statement M
-placed-row-spec = tie.close (tie.spec (λ c κs. search rules) (λ c. search rules) (λ c. search rules) (λ c. search rules) returns)
+pub placed_row_spec : {M : Type 1} → statement M
+placed_row_spec = tie.close (tie.spec (λ c κs. search rules) (λ c. search rules) (λ c. search rules) (λ c. search rules) returns)

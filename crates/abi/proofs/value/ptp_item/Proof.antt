@@ -5,7 +5,7 @@ use Rattle.abi.proofs.value.ptp_item.Statement.{statement}
 use Rattle.abi.proofs.value.ptp_item.Tie as tie
 
 returns : tie.Need-returns
-returns c = record { answer = says_written c.before.before.before.give-read.result; allows = rw (← c.before.before.before.before.before.item.ensures) c.before.before.before.give-read.ensures; told = c.told.ensures }
+returns c = record { answer = says_written c.give_read.result; allows = rw (← c.item.ensures) c.give_read.ensures; told = c.told.ensures }
 
-pub ptp-item-spec : {M : Type 1} → statement M
-ptp-item-spec = tie.close (tie.spec (λ c κs. search rules) (λ c κs. search rules) (λ c κs. search rules) (λ c. search rules) returns)
+pub ptp_item_spec : {M : Type 1} → statement M
+ptp_item_spec = tie.close (tie.spec (λ c κs. search rules) (λ c κs. search rules) (λ c κs. search rules) (λ c. search rules) returns)

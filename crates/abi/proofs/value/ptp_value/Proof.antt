@@ -5,7 +5,7 @@ use Rattle.abi.proofs.value.ptp_value.Statement.{statement}
 use Rattle.abi.proofs.value.ptp_value.Tie as tie
 
 returns : tie.Need-returns
-returns c = record { answer = says_written c.before.before.before.give-read.result; allows = rw (← c.before.before.before.before.before.value.ensures) c.before.before.before.give-read.ensures; told = c.told.ensures }
+returns c = record { answer = says_written c.give_read.result; allows = rw (← c.value.ensures) c.give_read.ensures; told = c.told.ensures }
 
-pub ptp-value-spec : {M : Type 1} → statement M
-ptp-value-spec = tie.close (tie.spec (λ c κs. search rules) (λ c κs. search rules) (λ c κs. search rules) (λ c. search rules) returns)
+pub ptp_value_spec : {M : Type 1} → statement M
+ptp_value_spec = tie.close (tie.spec (λ c κs. search rules) (λ c κs. search rules) (λ c κs. search rules) (λ c. search rules) returns)

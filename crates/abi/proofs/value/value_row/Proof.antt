@@ -6,14 +6,14 @@ use Rattle.abi.specs.Rows.{value_row}
 use Rattle.abi.proofs.value.value_row.Statement.{statement}
 use Rattle.abi.proofs.value.value_row.Tie as tie
 
-returns : tie.Need-returns
+returns : tie.Need-returns-in-Int
 returns c =
-    let z = c.before.before.v.given.0.0 in
-    let same = to_z-of_z w64 z (record { sfits = c.before.known-told.given.0.1 }) in
-    rw (c.signed_word.ensures, same) (ap (λ v. value_row (located v)) (sym c.before.before.v.given.1))
+    let z = c.in-Int.z in
+    let same = to_z-of_z w64 z (record { sfits = c.in-Int.known_told-1-own.given.0.1 }) in
+    rw (c.signed_word.ensures, same) (ap (λ v. value_row (located v)) (sym c.in-Int.is))
 
-pub value-row-spec : {M : Type 1} → statement M
-value-row-spec =
+pub value_row_spec : {M : Type 1} → statement M
+value_row_spec =
     tie.close
     (tie.spec
     (λ c. search rules)
@@ -24,8 +24,8 @@ value-row-spec =
     (λ c. search rules)
     (λ c. search rules)
     returns
-    (λ c. rw c.before.v2.given.1)
-    (λ c. rw c.before.v3.given.1)
-    (λ c. rw c.before.v4.given.1)
-    (λ c. rw c.before.v5.given.1)
-    (λ c. rw c.enum_told.given.1))
+    (λ c. rw c.in-Nat.is)
+    (λ c. rw c.in-Wide.is)
+    (λ c. rw c.in-Items.is)
+    (λ c. rw c.in-Text.is)
+    (λ c. rw c.in-Undef.is))

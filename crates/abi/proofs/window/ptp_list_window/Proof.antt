@@ -6,19 +6,19 @@ use Rattle.abi.proofs.Listing.{says_unlisted, says_listed}
 use Rattle.abi.proofs.window.ptp_list_window.Statement.{statement}
 use Rattle.abi.proofs.window.ptp_list_window.Tie as tie
 
-returns : tie.Need-returns
+returns : tie.Need-returns-then-counts-lt4
 returns c =
-    let a = c.before.before.before.before.before.before.args in
-    says_unlisted (window_of a.last (length a.out.now) a.s.now a.place a.records) a.out.now a.counts.now c.before.before.if1.true c.before.plain.ensures c.told.ensures
+    let a = c.args in
+    says_unlisted (window_of a.last (length a.out.now) a.s.now a.place a.records) a.out.now a.counts.now c.if-counts-lt4.true c.plain.ensures c.told.ensures
 
-returns-2 : tie.Need-returns-2
+returns-2 : tie.Need-returns
 returns-2 c =
-    let a = c.before.before.before.before.before.before.before.before.before.before.before.before.before.before.before.before.args in
-    let room = c.before.before.before.before.before.before.before.before.before.before.before.before.if1.false in
-    says_listed (window_of a.last (length a.out.now) a.s.now a.place a.records) a.out.now a.counts.now room c.before.before.before.before.before.before.before.before.before.before.list-window.ensures (wrote_so refl room c.before.before.before.give.ensures).1 c.told2.ensures
+    let a = c.args in
+    let room = c.if-counts-lt4.false in
+    says_listed (window_of a.last (length a.out.now) a.s.now a.place a.records) a.out.now a.counts.now room c.list_window-w.ensures (wrote_so refl room c.give.ensures).1 c.told-2.ensures
 
-pub ptp-list-window-spec : {M : Type 1} → statement M
-ptp-list-window-spec =
+pub ptp_list_window_spec : {M : Type 1} → statement M
+ptp_list_window_spec =
     tie.close
     (tie.spec
     (λ c κs. search rules)
