@@ -9,6 +9,9 @@ from door.failure import Failure, Misuse, named
 HOME = os.path.dirname(os.path.dirname(os.path.realpath(__file__)))
 PIECE = 1 << 16
 
+# What a proved program ends with where its reader has gone: it ignores the signal, and ends as a shell tells of one that it ended.
+READER_GONE = 128 + signal.SIGPIPE
+
 
 def words_of(name):
     """The words that run a program. The repository builds what is not built; what is installed is there."""
@@ -82,7 +85,7 @@ class Program(Process):
     def end(self):
         """A program that did not end by itself is told of, but for one whose reader has gone."""
         status = self.wait()
-        if status == -signal.SIGPIPE:
+        if status in (-signal.SIGPIPE, READER_GONE):
             raise Failure("")
         if status < 0:
             raise Failure(f"{self.name} was ended by {signal.Signals(-status).name}")

@@ -20,9 +20,9 @@ LIBRARY, PROGRAM = Look("#e9f1fb", "#3c6fa6", 4), Look("#fdf1dd", "#b9740f", 14)
 
 
 def needed_of(listed):
-    """What each crate needs, by crates.txt."""
+    """What each crate needs, by crates.txt. A static library's line says so behind its name."""
     lines = [line.split("#")[0] for line in listed.splitlines()]
-    return {name.strip(): needs.split() for name, needs in (line.split(":") for line in lines if line.strip())}
+    return {head.split()[0]: needs.split() for head, needs in (line.split(":") for line in lines if line.strip())}
 
 
 def held_of(page):

@@ -93,7 +93,7 @@ def points(curve):
 class House(unittest.TestCase):
     def setUp(self):
         self.picture = kept("docs/house.svg")
-        self.needed = {name: needs.split() for name, needs in re.findall(r"(?m)^(\w+):(.*)$", read("crates.txt"))}
+        self.needed = {name: needs.split() for name, needs in re.findall(r"(?m)^(\w+)(?: staticlib)?:(.*)$", read("crates.txt"))}
         self.boxes = {group.get("id"): next(elements(group, "rect")) for group in elements(self.picture, "g")}
         self.lines = {tuple(title(path).split(" stands on ")): path.get("d") for path in elements(self.picture, "path")}
 
@@ -172,6 +172,17 @@ class Transaction(unittest.TestCase):
 TABLE = """
 Last run: {machine}.
 
+|  | ours, ns | theirs, ns | ratio |
+|--|---------:|-----------:|------:|
+| one | 53.2 | 1402 | 26.4x |
+| alone | 25.2 | - | - |
+| other | 11581670 | 703166 | 0.1x |
+"""
+
+# With the least of our rounds as a last column, as the bench writes it now.
+TABLE_WITH_LEAST = """
+Last run: {machine}.
+
 |  | ours, ns | theirs, ns | ratio | ours, least |
 |--|---------:|-----------:|------:|------------:|
 | one | 53.2 | 1402 | 26.4x | 51.0 |
@@ -185,7 +196,7 @@ class Chart(unittest.TestCase):
         return [group for group in elements(picture, "g") if group.get("class") == "bar"]
 
     def test_a_bar_for_each_line_with_both_figures(self):
-        rows = re.findall(r"(?m)^\| (\S.*?) +\| +[\d.]+ \| +[\d.]+ \| +([\d.]+)x \| +[\d.]+ \|$", read("bench/RESULTS.md"))
+        rows = re.findall(r"(?m)^\| (\S.*?) +\| +[\d.]+ \| +[\d.]+ \| +([\d.]+)x \|(?: +[\d.]+ \|)?$", read("bench/RESULTS.md"))
         bars = self.bars(kept("bench/RESULTS.svg"))
         self.assertEqual([(texts(bar)[0], texts(bar)[1]) for bar in bars], [(label, f"{ratio}x") for label, ratio in rows])
         widths = [numbers(next(elements(bar, "rect")), "width")[0] for bar in bars]
@@ -202,12 +213,15 @@ class Chart(unittest.TestCase):
         self.assertEqual([words for words in texts(picture) if words.startswith("Last")], ["Last run: this one.", "Last run: that one."])
         self.assertEqual(len(self.bars(picture)), 4)
 
+    def test_another_column_changes_nothing(self):
+        self.assertEqual(chart.picture(TABLE_WITH_LEAST.format(machine="here")), chart.picture(TABLE.format(machine="here")))
+
     def test_times_in_units_that_can_be_read(self):
         said = [chart.time_of(cell) for cell in ("1.8", "919", "1402", "98212", "703166", "11581670", "153632843")]
         self.assertEqual(said, ["1.8 ns", "919 ns", "1.40 µs", "98.2 µs", "703 µs", "11.6 ms", "154 ms"])
 
     def test_a_page_without_figures(self):
-        for page in ("", "Last run: here.\n", TABLE.replace("Last run", "A run")):
+        for page in ("", "Last run: here.\n", TABLE.replace("Last run", "A run"), TABLE_WITH_LEAST.replace("Last run", "A run")):
             with self.assertRaisesRegex(BadPage, "no table with figures"):
                 chart.picture(page)
 

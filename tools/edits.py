@@ -31,6 +31,12 @@ def read(path):
         return file.read()
 
 
+def listed():
+    """The crates of crates.txt by what each needs, in the order of the file. A line is `NAME: NEEDS`, or `NAME staticlib: NEEDS`."""
+    lines = [line.split('#')[0].partition(':') for line in read(os.path.join(ROOT, 'crates.txt')).splitlines()]
+    return {head.split()[0]: needs.split() for head, _, needs in lines if head.strip()}
+
+
 def crates():
     """The crates that have a file of edits."""
     return sorted(name[:-len('.edits')] for name in os.listdir(FOLDER) if name.endswith('.edits'))

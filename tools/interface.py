@@ -1,21 +1,25 @@
 """Fails where a crate cites a law of another that does not stand in that crate's interface, its proofs/laws/.
 
-Files of laws begin with a capital. What a walk by hand names, the functions that it calls and the structs that it takes apart, does not.
+Files of laws begin with a capital. What a walk by hand names, the functions that it calls and the structs that it takes apart, does not. The kit's
+laws are its own matter.
 """
 import glob
 import os
 import re
 import sys
 
-ROOT = os.path.dirname(os.path.dirname(os.path.realpath(__file__)))
-CITED = re.compile(r'Rattle·(\w+)\.proofs\.([A-Z]\w*)')
+from tools import edits
+from tools.edits import ROOT
+
+CITED = re.compile(r'Rattle\.(\w+)\.proofs\.([A-Z]\w*)')
 
 
 def faults():
-    for path in sorted(glob.glob(os.path.join(ROOT, 'crates', '*', '**', '*.*t*'), recursive=True)):
-        if path.endswith(('.antt', '.rt')):
-            with open(path, encoding='utf-8') as file:
-                for crate, law in sorted(set(CITED.findall(file.read()))):
+    for own in edits.listed():
+        others = set(edits.listed()) - {own}
+        for path in sorted(path for part in ('src', 'specs', 'proofs') for path in glob.glob(os.path.join(ROOT, 'crates', own, part, '**', '*.*t*'), recursive=True)):
+            for crate, law in sorted(set(CITED.findall(edits.read(path)))):
+                if crate in others:
                     yield '%s cites %s/proofs/%s, which is not in its laws/' % (os.path.relpath(path, ROOT), crate, law)
 
 

@@ -104,7 +104,7 @@ def type_faults(header):
 
 
 def kind_faults(header):
-    line = re.search(r'^kindText kind = .*', text('crates', 'listing', 'specs', 'Lines.antt'), re.M).group()
+    line = re.search(r'^kind_text kind = .*', text('crates', 'listing', 'specs', 'Lines.antt'), re.M).group()
     judged = {name: number for number, name in enumerate(re.findall(r'spelled "(\w+) "', line), 1)}
     capitals = {in_capitals(name): number for name, number in judged.items()}
     yield from compared('c/ptp.h', enum(header, 'ptp_container_kind', 'PTP_CONTAINER_'), capitals)
@@ -125,7 +125,7 @@ def handle_faults(header):
 
 
 def place_faults(header):
-    places = re.search(r'^listsOk .*? = eqb \(length hs\) (\d+)', text('crates', 'tree', 'specs', 'Table.antt'), re.M).group(1)
+    places = re.search(r'^lists_ok .*? = eqb \(length hs\) (\d+)', text('crates', 'tree', 'specs', 'Table.antt'), re.M).group(1)
     gone = re.search(r'^GONE = (\d+)$', text('crates', 'shots', 'specs', 'Collected.antt'), re.M).group(1)
     judged = numbered([('PLACES', places), ('GONE', gone)])
     yield from compared('c/ptp.h', numbered(re.findall(r'PTP_(PLACES|GONE) = (\d+)', header)), judged)

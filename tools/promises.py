@@ -19,8 +19,7 @@ FEW = 2
 
 def crates():
     """All crates, in the order of crates.txt."""
-    names = [line.split('#')[0].split(':')[0].strip() for line in edits.read(os.path.join(edits.ROOT, 'crates.txt')).splitlines()]
-    return [name for name in names if name]
+    return list(edits.listed())
 
 
 def libraries():

@@ -17,7 +17,7 @@ from tools import edits
 PAGE = os.path.join(edits.ROOT, 'docs', 'PROMISES.md')
 READING = os.path.join(edits.ROOT, 'docs', 'READING.md')
 HEAD = '| crate | its theorems (lines) | the definitions that their statements stand on (lines) |\n|---|---|---|\n'
-IMPORT = re.compile(r'^use Rattle·(\w+)(?:·\w+)?\.specs\.(\w+)(?:\.\{(.*)\}| as (\w+))$')
+IMPORT = re.compile(r'^use Rattle\.(\w+)\.specs\.(\w+)(?:\.\{(.*)\}| as (\w+))$')
 STATEMENT = re.compile(r'^( *)pub ([^\s:]+) :')
 
 
@@ -78,7 +78,7 @@ def named_by(text, laws):
     """The files of specs/ that the statements of these laws name."""
     said = statements(text)
     used = words([line for law in laws if law in said for line in said[law]])
-    return {place for name, place in imports(text) if name.strip('_') in used or any(part in used for part in name.split('_') if part)}
+    return {place for name, place in imports(text) if any(part in used for part in name.split('◌') if part)}
 
 
 def closed(places):
@@ -112,10 +112,9 @@ def counted(crate, folder, modules):
 
 def table(theorems, stands):
     """A crate a row, in the order of crates.txt; a file of specs/ stands in the row of its own crate."""
-    names = [line.split(':')[0] for line in edits.read(os.path.join(edits.ROOT, 'crates.txt')).splitlines() if ':' in line]
     believed = set().union(*stands.values())
     lines = []
-    for crate in names:
+    for crate in edits.listed():
         specs = {module for owner, module in believed if owner == crate}
         if crate in theorems or specs:
             lines.append('| `%s` | %s | %s |\n' % (crate, counted(crate, 'proofs', theorems.get(crate, ())), counted(crate, 'specs', specs)))

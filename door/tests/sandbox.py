@@ -9,25 +9,30 @@ import subprocess
 import tempfile
 
 ROOT = pathlib.Path(__file__).resolve().parent.parent.parent
-CRATES = "layout:\nwire: layout\ntree: wire layout\nlist: wire layout io\ncopy: wire layout io\nmend: wire layout io\nask: tree io\nabi: wire\n"
+CRATES = "layout:\nwire: layout\ntree: wire layout\nlist: wire layout io\ncopy: wire layout io\nmend: wire layout io\nask: tree io\nabi staticlib: wire\n"
 
-# An rt that takes SLOW seconds for each crate that has no stamp, and makes the program.
+# An rt that takes SLOW seconds for each crate that has no stamp, and makes the program or the archive of the crate in whose folder it is called.
 RT = """#!/bin/sh
-mkdir -p target/log target/bin target/stamp
-for crate in layout wire "$2"; do
-    if [ -e "target/stamp/$crate" ]; then continue; fi
-    echo "many words of the prover on $crate" | tee "target/log/$crate.say"
+own=${PWD##*/}
+for crate in layout wire "$own"; do
+    if [ -e "../$crate/out/stamp" ]; then continue; fi
+    mkdir -p "../$crate/out"
+    echo "rt: chose --jobs 2 for $crate"
+    echo "many words of the prover on $crate"
     if [ "$RT_REFUSES" = "$crate" ]; then exit 1; fi
     sleep "${SLOW:-0}"
-    touch "target/stamp/$crate"
+    touch "../$crate/out/stamp"
 done
-cp the-program "target/bin/$2"
+case $1 in
+run) cp ../../the-program "out/$own" ;;
+lib) cp ../../the-archive "out/lib$own.a" ;;
+esac
 """
-COMPILER = '#!/bin/sh\necho "compiled: $1 $2"\nmkdir -p target/native\ncp the-program "$2"\n'
+COMPILER = '#!/bin/sh\necho "compiled: $1 $2 $3"\ncp the-archive "$2"\n'
 EMULATOR = '#!/bin/sh\nshift 3\necho "emulated: $1"\nexec "$@"\n'
 # What stands on the path besides the kit.
 TOOLS = (
-    "awk", "cat", "cp", "dirname", "env", "find", "head", "install", "ln", "mkdir", "printf", "readlink", "realpath", "rm", "sh", "sleep", "tee", "touch",
+    "awk", "cat", "cp", "dirname", "env", "find", "grep", "head", "install", "ln", "mkdir", "printf", "readlink", "realpath", "rm", "sh", "sleep", "tee", "touch",
 )
 
 
@@ -71,6 +76,7 @@ class Sandbox:
         shutil.copytree(ROOT / "door", self.home / "door", ignore=shutil.ignore_patterns("tests", "__pycache__"))
         self.machine = machine
         self.script(self.home / "the-program", program)
+        self.script(self.home / "the-archive", program)
         self.script(self.home / "tools" / "native", COMPILER)
         self.tool("uname", f"#!/bin/sh\necho {machine}\n")
         for name in TOOLS:
@@ -86,14 +92,16 @@ class Sandbox:
         self.script(self.folder / "bin" / name, text)
 
     def kit(self):
-        chain = self.folder / "kit" / "on" / self.machine / "toolchain"
+        (self.folder / "kit" / "toolchain").mkdir(parents=True)
         self.script(self.folder / "kit" / "bin" / "rt", RT)
-        self.script(chain / "bin" / "qemu-x86_64", EMULATOR)
+
+    def emulator(self):
+        self.tool("qemu-x86_64", EMULATOR)
 
     def built(self, *names):
         """As a run before this one leaves it."""
         for name in names:
-            self.script(self.home / "target" / "bin" / name, (self.home / "the-program").read_text())
+            self.script(self.home / "crates" / name / "out" / name, (self.home / "the-program").read_text())
         return self
 
     def run(self, *words, kit=True, **more):

@@ -198,7 +198,7 @@ class Rows(Door):
     def shown(self, answer, row=b"row", words=("settings",)):
         """What is shown of a row where the program answers so; the question that it was asked is kept beside it."""
         box = self.built(f"#!/bin/sh\ncat >'{{}}'/asked\nprintf '%b' '{answer}'\n")
-        box.script(box.home / "target" / "bin" / "ask", f"#!/bin/sh\ncat >{box.folder}/asked\nprintf '%b' '{answer}'\n")
+        box.script(box.home / "crates" / "ask" / "out" / "ask", f"#!/bin/sh\ncat >{box.folder}/asked\nprintf '%b' '{answer}'\n")
         shown = box.run(*words, input=row)
         return shown, (box.folder / "asked").read_text()
 
@@ -228,7 +228,7 @@ class Rows(Door):
         box = self.built()
         row = box.folder / "row"
         row.write_bytes(b"row")
-        box.script(box.home / "target" / "bin" / "ask", f"#!/bin/sh\nread -r word rest\n[ $word = settings-write ] || printf more >>{row}\necho ok 2 0102\n")
+        box.script(box.home / "crates" / "ask" / "out" / "ask", f"#!/bin/sh\nread -r word rest\n[ $word = settings-write ] || printf more >>{row}\necho ok 2 0102\n")
         status, out, said = box.run("settings", row, "set", "6", "1", "UINT8", "1")
         self.assertEqual((status, out, row.read_bytes()), (1, "", b"rowmore"))
         self.assertIn("in the meantime", said)
@@ -508,12 +508,12 @@ class Installing(Door):
             if not shutil.which(tool):
                 self.skipTest(f"{tool} is missing")
         box = self.library(f"#!/bin/sh\nPATH='{os.environ['PATH']}' exec cc \"$@\"\n")
-        box.script(box.home / "tools" / "native", f"""#!/bin/sh
-PATH='{os.environ['PATH']}'
-mkdir -p target/native
-printf '#include "ptp.h"\\nint64_t ptp_response_place(uint16_t code) {{ return code; }}\\n' >stands.c
-cc -fPIC -I c -c stands.c -o stands.o && ar rcs "$2" stands.o
-""")
+        stands = box.folder / "stands.c"
+        stands.write_text('#include "ptp.h"\nint64_t ptp_response_place(uint16_t code) { return code; }\n')
+        archive, made = box.home / "the-archive", box.folder / "stands.o"
+        archive.unlink()
+        script = f"cc -fPIC -I {box.home}/c -c {stands} -o {made} && ar rcs {archive} {made}"
+        self.assertEqual(result(["sh", "-c", script]), (0, "", ""))
         self.assertEqual(box.run("install", "here")[0], 0)
         found = {**os.environ, "PKG_CONFIG_PATH": str(box.folder / "here" / "lib" / "pkgconfig"), "LD_LIBRARY_PATH": str(box.folder / "here" / "lib")}
         (box.folder / "user.c").write_text('#include <ptp.h>\n#include <stdio.h>\nint main(void) { return printf("%s %d", PTP_VERSION, (int)ptp_response_place(7)) < 0; }\n')
@@ -522,23 +522,28 @@ cc -fPIC -I c -c stands.c -o stands.o && ar rcs "$2" stands.o
 
 
 class OtherMachines(Door):
-    """On a processor that is not x86-64."""
+    """On a processor that is not x86-64, for which programs are made."""
 
-    def test_compiled_anew_where_a_compiler_is(self):
+    def test_the_library_is_compiled_for_it(self):
         box = self.sandbox(machine="aarch64")
-        box.tool("cc")
-        self.assertEqual(box.run("list", input=b"x")[:2], (0, "x"))
-        self.assertIn("compiled: list target/native/list", (box.home / "target" / "door" / "list.log").read_text())
-        self.assertEqual(box.run("list", input=b"x", kit=False), (0, "x", ""))
+        box.tool("cc", '#!/bin/sh\nfor out; do :; done\necho shared >"$out"\n')
+        self.assertEqual(box.run("program", "library")[:2], (0, f"{box.home}/target/native/libptp.so.0\n"))
+        self.assertIn("compiled: abi target/native/libptp.a aarch64\n", (box.home / "target" / "door" / "abi.log").read_text())
 
-    def test_emulated_where_none_is(self):
+    def test_emulated(self):
         box = self.sandbox(machine="aarch64")
-        self.assertEqual(box.run("list", input=b"x")[:2], (0, f"emulated: {box.home}/target/bin/list\nx"))
-        self.assertEqual(box.run("list", input=b"x", kit=False), (0, f"emulated: {box.home}/target/bin/list\nx", ""))
+        box.emulator()
+        self.assertEqual(box.run("list", input=b"x")[:2], (0, f"emulated: {box.home}/crates/list/out/list\nx"))
+        self.assertEqual(box.run("list", input=b"x", kit=False), (0, f"emulated: {box.home}/crates/list/out/list\nx", ""))
 
     def test_built_by_the_gate_and_emulated(self):
         box = self.built(machine="aarch64")
-        self.assertEqual(box.run("list", input=b"x"), (0, f"emulated: {box.home}/target/bin/list\nx", ""))
+        box.emulator()
+        self.assertEqual(box.run("list", input=b"x"), (0, f"emulated: {box.home}/crates/list/out/list\nx", ""))
+
+    def test_without_an_emulator(self):
+        said = "ptp: the programs are made for x86-64, and this machine has no emulator: no qemu-x86_64 on the path\n"
+        self.assertEqual(self.built(machine="aarch64").run("list"), (2, "", said))
 
 
 if __name__ == "__main__":
