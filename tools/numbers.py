@@ -86,7 +86,7 @@ def refusal_faults(header):
 def type_faults(header):
     source = text('crates', 'wire', 'src', 'kind.rt')
     integers = {('U' if sign == 'U' else '') + 'INT' + bits: int(number)
-                for number, sign, bits in re.findall(r'(\d+) => Known::Is\(Kind::([IU])(\d+)\)', source)}
+                for number, sign, bits in re.findall(r'(\d+) => Some\(Kind::([IU])(\d+)\)', source)}
     array = int(re.search(r'else \{ code - (0x\w+) \}', source).group(1), 0)
     string = int(re.search(r'pub const STRING: u16 = (0x\w+);', source).group(1), 0)
     yield from compared('c/ptp.h', enum(header, 'ptp_type', 'PTP_'), {**integers, 'ARRAY': array, 'STRING': string})

@@ -1,20 +1,20 @@
 -- The promises determine the answer: two words that a promise allows, and what they leave, are the same.
 -- A word is that of an answer, and the answer that is allowed is one: by the rule of writers, of the walk, of all paths, of tables that change, of commands.
 -- Assumes nothing.
+use Rattle.layout.specs.Answer.{says_count}
+use Rattle.std.specs.Prelude.{Ok, Err}
+use Rattle.std.specs.declared.result.Result.{Result}
+use Rattle.layout.specs.declared.Refusal.{Refusal}
 use Rattle.std.proofs.Common.{◌≡◌, ℕ, List, ◌∷◌, ◌++◌, length, drop, sym, refl, ap, ◌∙◌}
-use Rattle.layout.specs.Answer.{Answer, got, refused, means, says_checked}
+use Rattle.layout.specs.Answer.{Answer, got, refused, means}
 use Rattle.layout.specs.Bytes.{Bytes}
-use Rattle.layout.specs.Written.{Said, left_of, says_written}
-use Rattle.layout.specs.declared.Written.{Written}
-use Rattle.layout.specs.declared.Written.TheVariants as written
+use Rattle.layout.specs.Written.{Said, left_of}
 use Rattle.recording.specs.Copied.{copy_said}
 use Rattle.session.specs.Transaction.{turn}
 use Rattle.tree.specs.Links.{Keeping, Linked}
 use Rattle.tree.specs.Path.{Walked, AllPaths}
 use Rattle.tree.specs.Table.{Table}
 use Rattle.tree.specs.View.{Viewed, ViewPaths}
-use Rattle.layout.specs.declared.Checked.{Checked}
-use Rattle.layout.specs.declared.Checked.TheVariants as checked
 use Rattle.tree.proofs.laws.Unique.{one_walked, one_paths, one_viewed, one_view_paths, one_linked, one_walk_linked, one_paths_linked}
 use Rattle.shots.specs.Added.{Adds}
 use Rattle.shots.specs.Collected.{Collected}
@@ -36,16 +36,16 @@ one_given said old new new' r s x y =
     (same_word x y (x.allows.answers ∙ sym y.allows.answers), x.allows.leaves ∙ sym y.allows.leaves)
 
 -- every answer is that of a case
-abbrev spoken : Answer (Unit {0}) → Written
-spoken (got u n) = written.Done n
-spoken (refused t) = written.Refused t
+abbrev spoken : Answer (Unit {0}) → Result ℕ Refusal
+spoken (got u n) = Ok n
+spoken (refused t) = Err t
 
-says_spoken : (a : Answer (Unit {0})) → says_written (spoken a) ≡ a
+says_spoken : (a : Answer (Unit {0})) → says_count (spoken a) ≡ a
 says_spoken (got u n) = refl
 says_spoken (refused t) = refl
 
 spoken_one : (a b : Answer (Unit {0})) → spoken a ≡ spoken b → a ≡ b
-spoken_one a b e = sym (says_spoken a) ∙ ap says_written e ∙ says_spoken b
+spoken_one a b e = sym (says_spoken a) ∙ ap says_count e ∙ says_spoken b
 
 pub one_walk_given : (t : Table) (old new new' : List ℕ) (r s : ℕ)
     → Tells (λ a. Walked t old a new) r → Tells (λ a. Walked t old a new') s → (r ≡ s) × (new ≡ new')
@@ -84,19 +84,10 @@ one_paths_linked_given t {fs} {ns} {out} {ends} {o} {o'} {b} {b'} x y =
     let all = one_paths_linked t {fs = fs} {ns = ns} {out = out} {ends = ends} {o = o} {o' = o'} {b = b} {b' = b'} (spoken x.answer) (spoken y.answer) (rw says_spoken x.allows) (rw says_spoken y.allows) in
     (same_word x y (spoken_one x.answer y.answer all.0), all.1, all.2)
 
--- every answer is that of a test's case, too
-abbrev tested : Answer (Unit {0}) → Checked
-tested (got u n) = checked.Whole n
-tested (refused t) = checked.Refused t
-
-says_tested : (a : Answer (Unit {0})) → says_checked (tested a) ≡ a
-says_tested (got u n) = refl
-says_tested (refused t) = refl
-
 pub one_linked_given : (t : Table) {fs ns f g m o : List ℕ} {r s : ℕ} → Tells (λ a. Linked t fs ns a f m) r → Tells (λ a. Linked t fs ns a g o) s → (r ≡ s) × (f ≡ g) × (m ≡ o)
 one_linked_given t {fs} {ns} {f} {g} {m} {o} x y =
-    let all = one_linked t {fs = fs} {ns = ns} {f = f} {g = g} {m = m} {o = o} (tested x.answer) (tested y.answer) (rw says_tested x.allows) (rw says_tested y.allows) in
-    (same_word x y (sym (says_tested x.answer) ∙ ap says_checked all.0 ∙ says_tested y.answer), all.1, all.2)
+    let all = one_linked t {fs = fs} {ns = ns} {f = f} {g = g} {m = m} {o = o} (spoken x.answer) (spoken y.answer) (rw says_spoken x.allows) (rw says_spoken y.allows) in
+    (same_word x y (sym (says_spoken x.answer) ∙ ap says_count all.0 ∙ says_spoken y.answer), all.1, all.2)
 
 pub one_collected_given : {t : Table} {old hs hs' ps ps' es es' ms ms' ns ns' new new' : List ℕ} {r s : ℕ}
     → Tells (λ a. Collected t old a hs ps es ms ns new) r → Tells (λ a. Collected t old a hs' ps' es' ms' ns' new') s

@@ -6,8 +6,9 @@ use Rattle.layout.specs.Written.{Said, says, no}
 use Rattle.settings.specs.declared.entry.Edition.{Edition}
 use Rattle.settings.specs.declared.entry.Edition.TheVariants as edition
 use Rattle.settings.specs.declared.entry.Entry.{Entry}
-use Rattle.settings.specs.declared.row.Found.{Found}
-use Rattle.settings.specs.declared.row.Found.TheVariants as found
+use Rattle.std.specs.Prelude.{Ok, Err}
+use Rattle.std.specs.declared.option.Option.TheVariants.{Some, None}
+use Rattle.settings.specs.Row.{Found}
 
 abbrev pub edition_of : Bool → Edition
 edition_of true = edition.Two
@@ -24,6 +25,6 @@ entry_row x = x.kind ∷ x.vendor ∷ x.property ∷ x.serial.start ∷ x.serial
 
 -- of what is kept its kind, its type, its value's start and length; no number where nothing is
 abbrev pub found_said : Found → Said
-found_said (found.Held x) = says (x.kind ∷ x.code ∷ x.value.start ∷ x.value.len ∷ [])
-found_said found.NotHeld = says []
-found_said (found.Refused t) = no t
+found_said (Ok (Some x)) = says (x.kind ∷ x.code ∷ x.value.start ∷ x.value.len ∷ [])
+found_said (Ok None) = says []
+found_said (Err t) = no t

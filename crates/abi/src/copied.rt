@@ -1,22 +1,19 @@
 // A recording copied without its notes.
+ghost use Rattle.layout.specs.Answer.{says_count};
 ghost use Rattle.std.specs.Prelude.{◌≡◌};
-ghost use Rattle.layout.specs.Written.{says_written};
 ghost use Rattle.abi.specs.Answered.{Tells};
 ghost use Rattle.abi.specs.Copied.{unroomed, CopiesInto};
 
 use crate::answer;
-use layout::Written;
-use recording::Copied;
+use layout::Refusal;
 
 // Into no room: the recording's own refusal, else 9.
-fn refuse_copy(s: &[u8]) -> Written
-    ensures { says_written result ≡ unroomed s.now }
+fn refuse_copy(s: &[u8]) -> Result<usize, Refusal>
+    ensures { says_count result ≡ unroomed s.now }
 {
     let mut none: [u8; 0] = [];
-    match recording::copy_records(s, &mut none) {
-        Copied::Done(_, _) => Written::Refused(layout::plain(layout::ROOM)),
-        Copied::Refused(f) => Written::Refused(f),
-    }
+    recording::copy_records(s, &mut none)?;
+    Err(layout::plain(layout::ROOM))
 }
 
 // The copy, and the number of records and of bytes that were left out.
@@ -28,10 +25,11 @@ pub extern "C" fn ptp_copy_recording(s: &[u8], out: &mut [u8], left: &mut [u64])
         return answer::told(refuse_copy(s));
     }
     match recording::copy_records(s, out) {
-        Copied::Done(n, l) => {
-            answer::give(&[l.records as u64, l.bytes as u64], left);
-            answer::told(Written::Done(n))
+        Ok((n, l)) => {
+            // two numbers have room
+            let _ = answer::give(&[l.records as u64, l.bytes as u64], left);
+            answer::told(Ok(n))
         }
-        Copied::Refused(f) => answer::told(Written::Refused(f)),
+        Err(f) => answer::told(Err(f)),
     }
 }

@@ -1,6 +1,7 @@
 // The four datasets: the length taken, then their fields in order, a part as its start and its count of units or items.
+ghost use Rattle.layout.specs.Answer.{says_count};
 ghost use Rattle.std.specs.Prelude.{◌≡◌, ◌∷◌};
-ghost use Rattle.layout.specs.Written.{Wrote, says_written};
+ghost use Rattle.layout.specs.Written.{Wrote};
 ghost use Rattle.wire.specs.Device.{device_fields};
 ghost use Rattle.wire.specs.Layout.{device, object, storage};
 ghost use Rattle.wire.specs.Object.{object_fields};
@@ -12,11 +13,8 @@ ghost use Rattle.abi.specs.Answered.{Gives, given};
 ghost use Rattle.abi.specs.Rows.{layout_of, enable_number, fields_row, form_row, prop_row, end_of, storage_answer};
 
 use crate::answer;
-use layout::Written;
-use wire::{
-    Cursor, DeviceInfo, Enable, Form, ObjectInfo, PropInfo, PropLayout, ReadDevice, ReadObject,
-    ReadProperty, ReadStorage, Span, StorageInfo,
-};
+use layout::Refusal;
+use wire::{Cursor, DeviceInfo, Form, ObjectInfo, PropInfo, PropLayout, StorageInfo};
 
 fn device_row(x: DeviceInfo, len: usize) -> [u64; 25]
     ensures { result ≡ len ∷ fields_row (device_fields x) }
@@ -50,13 +48,11 @@ fn device_row(x: DeviceInfo, len: usize) -> [u64; 25]
     ]
 }
 
-fn give_device(s: &[u8], out: &mut [u64]) -> Written
-    ensures { Wrote (given fields_row (row_at device s.now 0)) out.old (says_written result) out.new }
+fn give_device(s: &[u8], out: &mut [u64]) -> Result<usize, Refusal>
+    ensures { Wrote (given fields_row (row_at device s.now 0)) out.old (says_count result) out.new }
 {
-    match wire::device_info(s, Cursor { at: 0 }) {
-        ReadDevice::Got(x, next) => answer::give(&device_row(x, next.at), out),
-        ReadDevice::Refused(f) => Written::Refused(f),
-    }
+    let (x, next) = wire::device_info(s, Cursor { at: 0 })?;
+    answer::give(&device_row(x, next.at), out)
 }
 
 #[unsafe(no_mangle)]
@@ -97,13 +93,11 @@ fn object_row(x: ObjectInfo, len: usize) -> [u64; 24]
     ]
 }
 
-fn give_object(s: &[u8], out: &mut [u64]) -> Written
-    ensures { Wrote (given fields_row (row_at object s.now 0)) out.old (says_written result) out.new }
+fn give_object(s: &[u8], out: &mut [u64]) -> Result<usize, Refusal>
+    ensures { Wrote (given fields_row (row_at object s.now 0)) out.old (says_count result) out.new }
 {
-    match wire::object_info(s, Cursor { at: 0 }) {
-        ReadObject::Got(x, next) => answer::give(&object_row(x, next.at), out),
-        ReadObject::Refused(f) => Written::Refused(f),
-    }
+    let (x, next) = wire::object_info(s, Cursor { at: 0 })?;
+    answer::give(&object_row(x, next.at), out)
 }
 
 #[unsafe(no_mangle)]
@@ -132,25 +126,21 @@ fn storage_row(x: StorageInfo, len: usize) -> [u64; 11]
 }
 
 // Where a record ends; 3 where it must fill its payload and does not.
-fn ending(s: &[u8], next: Cursor, filling: bool) -> Span
+fn ending(s: &[u8], next: Cursor, filling: bool) -> Result<Cursor, Refusal>
     ensures { says_span result ≡ end_of «filling» s.now next.at }
 {
     if filling {
         return next.end(s);
     }
-    Span::Till(next)
+    Ok(next)
 }
 
-fn give_storage(s: &[u8], filling: bool, out: &mut [u64]) -> Written
-    ensures { Wrote (given fields_row (storage_answer «filling» s.now)) out.old (says_written result) out.new }
+fn give_storage(s: &[u8], filling: bool, out: &mut [u64]) -> Result<usize, Refusal>
+    ensures { Wrote (given fields_row (storage_answer «filling» s.now)) out.old (says_count result) out.new }
 {
-    match wire::storage_info(&*s, Cursor { at: 0 }) {
-        ReadStorage::Got(x, next) => match ending(&*s, next, filling) {
-            Span::Till(end) => answer::give(&storage_row(x, end.at), out),
-            Span::Refused(f) => Written::Refused(f),
-        },
-        ReadStorage::Refused(f) => Written::Refused(f),
-    }
+    let (x, next) = wire::storage_info(&*s, Cursor { at: 0 })?;
+    let end = ending(&*s, next, filling)?;
+    answer::give(&storage_row(x, end.at), out)
 }
 
 // Both exported functions ask here, so that the reader stands at one place: the compiler puts it there whole. The slice is lent on anew (`&*s`),
@@ -188,12 +178,12 @@ fn form_row(f: Form) -> [u64; 7]
 }
 
 // 256 where the byte is absent: no byte is 256.
-fn enable_number(e: Enable) -> u64
+fn enable_number(e: Option<u8>) -> u64
     ensures { result ≡ enable_number (says_enable e) }
 {
     match e {
-        Enable::There(b) => b as u64,
-        Enable::Absent => 256,
+        Some(b) => b as u64,
+        None => 256,
     }
 }
 
@@ -235,13 +225,11 @@ pub(crate) fn named(book: bool) -> PropLayout
     }
 }
 
-fn give_prop(l: PropLayout, s: &[u8], out: &mut [u64]) -> Written
-    ensures { Wrote (given prop_row (property_at (has_enable l) s.now 0)) out.old (says_written result) out.new }
+fn give_prop(l: PropLayout, s: &[u8], out: &mut [u64]) -> Result<usize, Refusal>
+    ensures { Wrote (given prop_row (property_at (has_enable l) s.now 0)) out.old (says_count result) out.new }
 {
-    match wire::property_info(l, s, Cursor { at: 0 }) {
-        ReadProperty::Got(x, next) => answer::give(&prop_row(x, next.at), out),
-        ReadProperty::Refused(f) => Written::Refused(f),
-    }
+    let (x, next) = wire::property_info(l, s, Cursor { at: 0 })?;
+    answer::give(&prop_row(x, next.at), out)
 }
 
 #[unsafe(no_mangle)]

@@ -6,7 +6,7 @@ ghost use Rattle.tree.specs.Path.{Walked, AllPaths};
 ghost use Rattle.tree.specs.Table.{table};
 ghost use Rattle.abi.specs.Answered.{Tells};
 
-use crate::{answer, object_table};
+use crate::answer;
 
 // The links of a table. The answer is the count.
 #[unsafe(no_mangle)]
@@ -22,9 +22,7 @@ pub extern "C" fn ptp_table_link(
 ) -> u64
     ensures { Tells (λ a. Linked (table handles.now parents.now ends.now marks.now count names.now) first.old next.old a first.new next.new) result }
 {
-    answer::told(object_table::counted(tree::link(
-        handles, parents, ends, marks, count, names, first, next,
-    )))
+    answer::told(tree::link(handles, parents, ends, marks, count, names, first, next))
 }
 
 // The places in walk order.
@@ -83,9 +81,9 @@ pub extern "C" fn ptp_linked_delete(
 ) -> u64
     ensures { Tells (λ a. DeletedLinked (table handles.now parents.now ends.now marks.old count names.now) first.old next.old place a marks.new first.new next.new) result }
 {
-    answer::told(object_table::counted(shots::delete_linked(
+    answer::told(shots::delete_linked(
         handles, parents, ends, marks, count, names, first, next, place,
-    )))
+    ))
 }
 
 // The live objects moved down, and the new place of each. The answer is the new count.
@@ -103,9 +101,9 @@ pub extern "C" fn ptp_linked_collect(
 ) -> u64
     ensures { Tells (λ a. CollectedLinked (table handles.old parents.old ends.old marks.old count names.old) first.old next.old news.old a handles.new parents.new ends.new marks.new names.new first.new next.new news.new) result }
 {
-    answer::told(object_table::counted(shots::collect_linked(
+    answer::told(shots::collect_linked(
         handles, parents, ends, marks, count, names, first, next, news,
-    )))
+    ))
 }
 
 // An object behind the last, and the new place of each of the others. The answer is its place; the count is then one more.
@@ -126,7 +124,7 @@ pub extern "C" fn ptp_linked_add(
 ) -> u64
     ensures { Tells (λ a. AddsLinked (table handles.old parents.old ends.old marks.old count names.old) first.old next.old news.old parent handle name.now a handles.new parents.new ends.new marks.new names.new first.new next.new news.new) result }
 {
-    answer::told(object_table::placed(shots::add_linked(
+    answer::told(shots::add_linked(
         handles, parents, ends, marks, count, names, first, next, news, parent, handle, name,
-    )))
+    ))
 }

@@ -3,8 +3,6 @@ ghost use Rattle.abi.specs.Answered.{Tells};
 ghost use Rattle.abi.specs.Mended.{MendsCounted};
 
 use crate::answer;
-use layout::Written;
-use mending::Mended;
 
 // The kept records go to `out`, the dropped stretches by start and length to `starts` and `lengths`; the answer is how many bytes were written,
 // and the number at the front of `counts` how many stretches.
@@ -19,13 +17,13 @@ pub extern "C" fn ptp_mend_recording(
     ensures { Tells (MendsCounted s.now out.old starts.old lengths.old counts.old out.new starts.new lengths.new counts.new) result }
 {
     if counts.len() == 0 {
-        return answer::told(Written::Refused(layout::plain(layout::ROOM)));
+        return answer::told(Err(layout::plain(layout::ROOM)));
     }
     match mending::mend(s, out, starts, lengths) {
-        Mended::Done(n, stretches) => {
+        Ok((n, stretches)) => {
             counts[0] = stretches as u64;
-            answer::told(Written::Done(n))
+            answer::told(Ok(n))
         }
-        Mended::Refused(f) => answer::told(Written::Refused(f)),
+        Err(f) => answer::told(Err(f)),
     }
 }

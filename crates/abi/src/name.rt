@@ -1,22 +1,23 @@
 // Names of codes, by their place in the name bytes.
+ghost use Rattle.layout.specs.Answer.{says_count};
 ghost use Rattle.std.specs.Prelude.{◌≡◌};
-ghost use Rattle.layout.specs.Written.{Wrote, says, says_written};
+ghost use Rattle.layout.specs.Written.{Wrote, says};
 ghost use Rattle.names.specs.Names.{name_bytes, response_place, command_place};
 ghost use Rattle.names.specs.Says.{says_name};
 ghost use Rattle.abi.specs.Answered.{Gives};
 ghost use Rattle.abi.specs.Rows.{place_word};
 
 use crate::answer;
-use layout::Written;
+use layout::Refusal;
 use names::Name;
 
 // A name's start in the name bytes, times 65,536, and its length; 0 for a code without a name.
-fn place(n: Name) -> u64
+fn place(n: Option<Name>) -> u64
     ensures { result ≡ place_word (says_name n) }
 {
     match n {
-        Name::At { start, len } => (start % 65536) as u64 * 65536 + (len % 65536) as u64,
-        Name::None => 0,
+        Some(p) => (p.start % 65536) as u64 * 65536 + (p.len % 65536) as u64,
+        None => 0,
     }
 }
 
@@ -34,14 +35,14 @@ pub extern "C" fn ptp_command_place(code: u16) -> u64
     place(names::command_name(code))
 }
 
-fn put_names(out: &mut [u8]) -> Written
-    ensures { Wrote (says name_bytes) out.old (says_written result) out.new }
+fn put_names(out: &mut [u8]) -> Result<usize, Refusal>
+    ensures { Wrote (says name_bytes) out.old (says_count result) out.new }
 {
     let all = names::name_bytes();
     if out.len() < 975 {
-        return Written::Refused(layout::plain(layout::ROOM));
+        return Err(layout::plain(layout::ROOM));
     }
-    Written::Done(layout::copy(&all, 0, 975, out, 0))
+    Ok(layout::copy(&all, 0, 975, out, 0))
 }
 
 // All name bytes, in which the places are.

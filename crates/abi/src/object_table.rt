@@ -1,18 +1,13 @@
 // The walk of an object table, a path, and all paths in its order; its folder view, and all paths in that order; an object deleted, the live ones collected, one added.
-ghost use Rattle.std.specs.Prelude.{◌≡◌};
-ghost use Rattle.layout.specs.Written.{says_written};
 ghost use Rattle.tree.specs.Path.{path_said, Walked, AllPaths};
-ghost use Rattle.layout.specs.Answer.{says_checked};
 ghost use Rattle.tree.specs.Table.{table};
 ghost use Rattle.tree.specs.View.{Viewed, ViewPaths};
-ghost use Rattle.shots.specs.Added.{add_at, Adds, says_added};
+ghost use Rattle.shots.specs.Added.{add_at, Adds};
 ghost use Rattle.shots.specs.Collected.{Collected};
 ghost use Rattle.shots.specs.Deleted.{delete_said};
 ghost use Rattle.abi.specs.Answered.{Tells, Gives};
 
 use crate::answer;
-use layout::{Checked, Written};
-use shots::Added;
 
 // The places in walk order.
 #[unsafe(no_mangle)]
@@ -97,24 +92,6 @@ pub extern "C" fn ptp_folder_paths(
     answer::told(tree::folder_paths(handles, parents, ends, marks, count, names, out, out_ends))
 }
 
-pub(crate) fn counted(c: Checked) -> Written
-    ensures { says_written result ≡ says_checked c }
-{
-    match c {
-        Checked::Whole(n) => Written::Done(n),
-        Checked::Refused(f) => Written::Refused(f),
-    }
-}
-
-pub(crate) fn placed(a: Added) -> Written
-    ensures { says_written result ≡ says_added a }
-{
-    match a {
-        Added::At(place) => Written::Done(place),
-        Added::Refused(f) => Written::Refused(f),
-    }
-}
-
 // A place ended, and everything below it. The answer is the count, which stays.
 #[unsafe(no_mangle)]
 pub extern "C" fn ptp_table_delete(
@@ -128,7 +105,7 @@ pub extern "C" fn ptp_table_delete(
 ) -> u64
     ensures { Gives (delete_said (table handles.now parents.now ends.now marks.old count names.now) place) marks.old result marks.new }
 {
-    answer::told(counted(shots::delete(handles, parents, ends, marks, count, names, place)))
+    answer::told(shots::delete(handles, parents, ends, marks, count, names, place))
 }
 
 // The live objects moved down, and the new place of each. The answer is the new count.
@@ -144,7 +121,7 @@ pub extern "C" fn ptp_table_collect(
 ) -> u64
     ensures { Tells (λ a. Collected (table handles.old parents.old ends.old marks.old count names.old) news.old a handles.new parents.new ends.new marks.new names.new news.new) result }
 {
-    answer::told(counted(shots::collect(handles, parents, ends, marks, count, names, news)))
+    answer::told(shots::collect(handles, parents, ends, marks, count, names, news))
 }
 
 // An object behind the last, and the new place of each of the others. The answer is its place; the count is then one more.
@@ -163,7 +140,7 @@ pub extern "C" fn ptp_table_add(
 ) -> u64
     ensures { Tells (λ a. Adds (add_at (table handles.old parents.old ends.old marks.old count names.old) news.old parent name.now) (table handles.old parents.old ends.old marks.old count names.old) news.old parent handle name.now a handles.new parents.new ends.new marks.new names.new news.new) result }
 {
-    answer::told(placed(shots::add(
+    answer::told(shots::add(
         handles, parents, ends, marks, count, names, news, parent, handle, name,
-    )))
+    ))
 }

@@ -1,14 +1,15 @@
 // The camera on the network: one transaction's containers as packets and back, and a packet by itself.
+ghost use Rattle.layout.specs.Answer.{says_count};
 ghost use Rattle.std.specs.Prelude.{◌≡◌, ◌∷◌};
-ghost use Rattle.layout.specs.Written.{Wrote, says_written};
+ghost use Rattle.layout.specs.Written.{Wrote};
 ghost use Rattle.network.specs.Packet.{packet_at};
 ghost use Rattle.network.specs.Translated.{to_said, from_said};
 ghost use Rattle.abi.specs.Answered.{Gives, given};
 ghost use Rattle.abi.specs.Packets.{direction_of, body_start, packet_row};
 
 use crate::answer;
-use layout::Written;
-use network::{Direction, Packet, ReadPacket};
+use layout::Refusal;
+use network::{Direction, Packet};
 use wire::Cursor;
 
 fn direction(to_camera: bool) -> Direction
@@ -61,13 +62,11 @@ fn packet_row(x: Packet, next: usize) -> [u64; 8]
     ]
 }
 
-fn give_packet(s: &[u8], at: usize, out: &mut [u64]) -> Written
-    ensures { Wrote (given packet_row (packet_at s.now at)) out.old (says_written result) out.new }
+fn give_packet(s: &[u8], at: usize, out: &mut [u64]) -> Result<usize, Refusal>
+    ensures { Wrote (given packet_row (packet_at s.now at)) out.old (says_count result) out.new }
 {
-    match network::read_packet(s, Cursor { at }) {
-        ReadPacket::Got(x, next) => answer::give(&packet_row(x, next.at), out),
-        ReadPacket::Refused(f) => Written::Refused(f),
-    }
+    let (x, next) = network::read_packet(s, Cursor { at })?;
+    answer::give(&packet_row(x, next.at), out)
 }
 
 // Of the packet at a place: the place after it, its kind, phase, code, number and total, where its parameters or data begin and how many bytes they are.

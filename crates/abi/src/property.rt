@@ -1,5 +1,6 @@
 // What is asked of a property's description: a value of its list, the newer value, the tidy spelling.
-ghost use Rattle.layout.specs.Written.{Wrote, says, says_written, tidied};
+ghost use Rattle.layout.specs.Answer.{says_count};
+ghost use Rattle.layout.specs.Written.{Wrote, says, tidied};
 ghost use Rattle.wire.specs.Codecs.{property};
 ghost use Rattle.wire.specs.List.{nth_at};
 ghost use Rattle.wire.specs.Newer.{newer_of};
@@ -8,19 +9,14 @@ ghost use Rattle.abi.specs.Answered.{Gives, given};
 ghost use Rattle.abi.specs.Rows.{layout_of, slot_row, newer_row};
 
 use crate::{answer, dataset};
-use layout::Written;
-use wire::{PropLayout, ReadNth};
+use layout::Refusal;
+use wire::PropLayout;
 
-fn give_value(l: PropLayout, s: &[u8], n: usize, out: &mut [u64]) -> Written
-    ensures { Wrote (given slot_row (nth_at (has_enable l) n s.now)) out.old (says_written result) out.new }
+fn give_value(l: PropLayout, s: &[u8], n: usize, out: &mut [u64]) -> Result<usize, Refusal>
+    ensures { Wrote (given slot_row (nth_at (has_enable l) n s.now)) out.old (says_count result) out.new }
 {
-    match wire::nth(l, s, n) {
-        ReadNth::Got(_, p, next) => answer::give(
-            &[next.at as u64, p.start as u64, p.len as u64],
-            out,
-        ),
-        ReadNth::Refused(f) => Written::Refused(f),
-    }
+    let (_, p, next) = wire::nth(l, s, n)?;
+    answer::give(&[next.at as u64, p.start as u64, p.len as u64], out)
 }
 
 // Of the n-th value, from 0: the place after it, and its start and length.
@@ -31,8 +27,13 @@ pub extern "C" fn ptp_list_value(book: bool, s: &[u8], n: usize, out: &mut [u64]
     answer::told(give_value(dataset::named(book), s, n, out))
 }
 
-fn give_newer(l: PropLayout, description: &[u8], payload: &[u8], out: &mut [u64]) -> Written
-    ensures { Wrote (says (newer_row (newer_of (has_enable l) description.now payload.now))) out.old (says_written result) out.new }
+fn give_newer(
+    l: PropLayout,
+    description: &[u8],
+    payload: &[u8],
+    out: &mut [u64],
+) -> Result<usize, Refusal>
+    ensures { Wrote (says (newer_row (newer_of (has_enable l) description.now payload.now))) out.old (says_count result) out.new }
 {
     let c = wire::newer_place(l, description, payload);
     answer::give(&[c.of_payload as u64, c.start as u64, c.len as u64], out)

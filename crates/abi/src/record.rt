@@ -1,15 +1,16 @@
 // A container, and a record of a recording.
+ghost use Rattle.layout.specs.Answer.{says_count};
 ghost use Rattle.std.specs.Prelude.{◌≡◌, ◌∷◌};
-ghost use Rattle.layout.specs.Written.{Wrote, says_written};
+ghost use Rattle.layout.specs.Written.{Wrote};
 ghost use Rattle.recording.specs.Record.{record_of, says_content, record_from};
 ghost use Rattle.abi.specs.Answered.{Gives, given};
 ghost use Rattle.wire.specs.Container.{container_at};
 ghost use Rattle.abi.specs.Rows.{container_row, content_row, record_row};
 
 use crate::answer;
-use layout::Written;
-use recording::{Content, ReadRecord, Record};
-use wire::{Container, Cursor, ReadContainer};
+use layout::Refusal;
+use recording::Record;
+use wire::{Container, Cursor};
 
 fn container_row(x: Container) -> [u64; 5]
     ensures { result ≡ container_row x }
@@ -30,13 +31,11 @@ fn placed_container(x: Container, next: usize) -> [u64; 6]
     [next as u64, c[0], c[1], c[2], c[3], c[4]]
 }
 
-fn give_container(s: &[u8], at: usize, out: &mut [u64]) -> Written
-    ensures { Wrote (given container_row (container_at s.now at)) out.old (says_written result) out.new }
+fn give_container(s: &[u8], at: usize, out: &mut [u64]) -> Result<usize, Refusal>
+    ensures { Wrote (given container_row (container_at s.now at)) out.old (says_count result) out.new }
 {
-    match wire::read_container(s, Cursor { at }) {
-        ReadContainer::Got(x, next) => answer::give(&placed_container(x, next.at), out),
-        ReadContainer::Refused(f) => Written::Refused(f),
-    }
+    let (x, next) = wire::read_container(s, Cursor { at })?;
+    answer::give(&placed_container(x, next.at), out)
 }
 
 // The place after it, then its kind, code, number and payload.
@@ -47,12 +46,12 @@ pub extern "C" fn ptp_read_container(s: &[u8], at: usize, out: &mut [u64]) -> u6
     answer::told(give_container(s, at, out))
 }
 
-fn content_row(c: Content) -> [u64; 5]
+fn content_row(c: Option<Container>) -> [u64; 5]
     ensures { result ≡ content_row (says_content c) }
 {
     match c {
-        Content::Note => [0, 0, 0, 0, 0],
-        Content::Holds(x) => container_row(x),
+        None => [0, 0, 0, 0, 0],
+        Some(x) => container_row(x),
     }
 }
 
@@ -74,13 +73,11 @@ fn record_row(x: Record, len: usize) -> [u64; 9]
     ]
 }
 
-fn give_record(s: &[u8], out: &mut [u64]) -> Written
-    ensures { Wrote (given record_row (record_of s.now)) out.old (says_written result) out.new }
+fn give_record(s: &[u8], out: &mut [u64]) -> Result<usize, Refusal>
+    ensures { Wrote (given record_row (record_of s.now)) out.old (says_count result) out.new }
 {
-    match recording::read_record(s) {
-        ReadRecord::Got(x, next) => answer::give(&record_row(x, next.at), out),
-        ReadRecord::Refused(f) => Written::Refused(f),
-    }
+    let (x, next) = recording::read_record(s)?;
+    answer::give(&record_row(x, next.at), out)
 }
 
 // The length taken, the record's kind, its body; then its container's kind, code, number and payload, all 0 for a note.

@@ -1,6 +1,7 @@
 // Settings kept from reel to reel. The caller names the edition: the second where `second` is true.
+ghost use Rattle.layout.specs.Answer.{says_count};
 ghost use Rattle.std.specs.Prelude.{◌≡◌, ◌∷◌};
-ghost use Rattle.layout.specs.Written.{Wrote, says_written};
+ghost use Rattle.layout.specs.Written.{Wrote};
 ghost use Rattle.settings.specs.Entry.{entry_at};
 ghost use Rattle.settings.specs.Row.{row_of, found_in, asked_key};
 ghost use Rattle.settings.specs.Spell.{entry_said};
@@ -9,8 +10,8 @@ ghost use Rattle.abi.specs.Answered.{word, Gives, given};
 ghost use Rattle.abi.specs.Settings.{edition_of, counted, entry_row, found_said};
 
 use crate::answer;
-use layout::{Checked, Written};
-use settings::{Edition, Entry, Found, ReadEntry};
+use layout::Refusal;
+use settings::{Edition, Entry};
 
 fn edition(second: bool) -> Edition
     ensures { result ≡ edition_of second }
@@ -18,21 +19,12 @@ fn edition(second: bool) -> Edition
     if second { Edition::Two } else { Edition::One }
 }
 
-fn count(e: Edition, row: &[u8]) -> Written
-    ensures { says_written result ≡ counted (row_of e row.now) }
-{
-    match settings::check_row(e, row) {
-        Checked::Whole(n) => Written::Done(n),
-        Checked::Refused(f) => Written::Refused(f),
-    }
-}
-
 // How many entries the row has.
 #[unsafe(no_mangle)]
 pub extern "C" fn ptp_settings_check(second: bool, row: &[u8]) -> u64
     ensures { result ≡ word (counted (row_of (edition_of second) row.now)) }
 {
-    answer::told(count(edition(second), row))
+    answer::told(settings::check_row(edition(second), row))
 }
 
 fn entry_row(x: Entry, next: usize) -> [u64; 9]
@@ -51,13 +43,11 @@ fn entry_row(x: Entry, next: usize) -> [u64; 9]
     ]
 }
 
-fn give_entry(e: Edition, s: &[u8], at: usize, out: &mut [u64]) -> Written
-    ensures { Wrote (given entry_row (entry_at e s.now at)) out.old (says_written result) out.new }
+fn give_entry(e: Edition, s: &[u8], at: usize, out: &mut [u64]) -> Result<usize, Refusal>
+    ensures { Wrote (given entry_row (entry_at e s.now at)) out.old (says_count result) out.new }
 {
-    match settings::entry_at(e, s, at) {
-        ReadEntry::Got(x, next) => answer::give(&entry_row(x, next.at), out),
-        ReadEntry::Refused(f) => Written::Refused(f),
-    }
+    let (x, next) = settings::entry_at(e, s, at)?;
+    answer::give(&entry_row(x, next.at), out)
 }
 
 // Of the entry at a place: the place after it, its kind, vendor and property, its serial's start and count of units, its type, its value's start and length.
@@ -75,22 +65,21 @@ fn give_found(
     property: u16,
     serial: &[u16],
     out: &mut [u64],
-) -> Written
-    ensures { Wrote (found_said (found_in e vendor property serial.now row.now)) out.old (says_written result) out.new }
+) -> Result<usize, Refusal>
+    ensures { Wrote (found_said (found_in e vendor property serial.now row.now)) out.old (says_count result) out.new }
 {
-    match settings::find(e, row, vendor, property, serial) {
-        Found::Held(x) => answer::give(
-            &[
-                x.kind as u64,
-                x.code as u64,
-                x.value.start as u64,
-                x.value.len as u64,
-            ],
-            out,
-        ),
-        Found::NotHeld => Written::Done(0),
-        Found::Refused(f) => Written::Refused(f),
-    }
+    let Some(x) = settings::find(e, row, vendor, property, serial)? else {
+        return Ok(0);
+    };
+    answer::give(
+        &[
+            x.kind as u64,
+            x.code as u64,
+            x.value.start as u64,
+            x.value.len as u64,
+        ],
+        out,
+    )
 }
 
 // Of the entry that is kept: its kind, its type, its value's start and length in the row. No number where none is kept.

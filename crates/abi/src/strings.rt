@@ -1,6 +1,7 @@
 // A string at a place: where its units stand, and the string in UTF-8.
+ghost use Rattle.layout.specs.Answer.{says_count};
 ghost use Rattle.layout.specs.Answer.{means};
-ghost use Rattle.layout.specs.Written.{Wrote, said_of, says_written};
+ghost use Rattle.layout.specs.Written.{Wrote, said_of};
 ghost use Rattle.std.specs.Prelude.{length};
 ghost use Rattle.wire.specs.Places.{text_at};
 ghost use Rattle.wire.specs.Utf8.{utf8_at};
@@ -8,19 +9,14 @@ ghost use Rattle.abi.specs.Answered.{Gives, given};
 ghost use Rattle.abi.specs.Rows.{number_row, part_row};
 
 use crate::answer;
-use layout::Written;
-use wire::{Cursor, Measured, ReadPart};
+use layout::Refusal;
+use wire::Cursor;
 
-fn give_text(s: &[u8], at: usize, out: &mut [u64]) -> Written
-    ensures { Wrote (given part_row (text_at s.now at)) out.old (says_written result) out.new }
+fn give_text(s: &[u8], at: usize, out: &mut [u64]) -> Result<usize, Refusal>
+    ensures { Wrote (given part_row (text_at s.now at)) out.old (says_count result) out.new }
 {
-    match (Cursor { at }).text(s) {
-        ReadPart::Got(p, next) => answer::give(
-            &[next.at as u64, p.start as u64, p.count as u64],
-            out,
-        ),
-        ReadPart::Refused(f) => Written::Refused(f),
-    }
+    let (p, next) = (Cursor { at }).text(s)?;
+    answer::give(&[next.at as u64, p.start as u64, p.count as u64], out)
 }
 
 // The place after it, then where its units begin and how many they are.
@@ -31,13 +27,11 @@ pub extern "C" fn ptp_text(s: &[u8], at: usize, out: &mut [u64]) -> u64
     answer::told(give_text(s, at, out))
 }
 
-fn give_utf8_len(s: &[u8], at: usize, out: &mut [u64]) -> Written
-    ensures { Wrote (given number_row (means length (utf8_at s.now at))) out.old (says_written result) out.new }
+fn give_utf8_len(s: &[u8], at: usize, out: &mut [u64]) -> Result<usize, Refusal>
+    ensures { Wrote (given number_row (means length (utf8_at s.now at))) out.old (says_count result) out.new }
 {
-    match (Cursor { at }).utf8_len(s) {
-        Measured::Whole { tidy, next } => answer::give(&[next as u64, tidy as u64], out),
-        Measured::Refused(f) => Written::Refused(f),
-    }
+    let (len, next) = (Cursor { at }).utf8_len(s)?;
+    answer::give(&[next.at as u64, len as u64], out)
 }
 
 // The place after it, and its length in UTF-8.

@@ -1,9 +1,10 @@
 // A command made, and its answer found.
+ghost use Rattle.layout.specs.Answer.{says_count};
 ghost use Rattle.std.specs.Prelude.{◌≡◌, ◌∷◌, length};
-ghost use Rattle.layout.specs.Written.{Wrote, says_written};
+ghost use Rattle.layout.specs.Written.{Wrote};
 ghost use Rattle.session.specs.Calls.{command_of};
 ghost use Rattle.session.specs.Needs.{Needs};
-ghost use Rattle.session.specs.Search.{answer_in, response_in};
+ghost use Rattle.session.specs.Search.{answer_in, reply_from, response_in};
 ghost use Rattle.session.specs.Transaction.{Makes, says_made};
 ghost use Rattle.wire.specs.Property.{has_enable};
 ghost use Rattle.panel.specs.Panel.{panel_said};
@@ -12,8 +13,8 @@ ghost use Rattle.abi.specs.Rows.{layout_of, reply_row, response_row};
 ghost use Rattle.abi.specs.Sent.{command_due, session_at, number_after, command_end, end_after, Parts};
 
 use crate::{answer, dataset};
-use layout::Written;
-use session::{Found, Made, ReadResponse, Response, Session};
+use layout::Refusal;
+use session::{Found, Made, Response, Session};
 
 fn made(
     number: u32,
@@ -22,7 +23,7 @@ fn made(
     payload: &[u8],
     with_data: bool,
     out: &mut [u8],
-) -> Made
+) -> Result<Made, Refusal>
     ensures { Makes (session_at number) code (command_due with_data (command_of code params.now) payload.now) out.old (says_made result) out.new }
 {
     let session = Session { number };
@@ -40,23 +41,19 @@ struct Said {
     word: u64,
 }
 
-fn spoken(number: u32, end: usize, params: usize, m: Made) -> Said
+fn spoken(number: u32, end: usize, params: usize, m: Result<Made, Refusal>) -> Said
     ensures { (result.number ≡ number_after number (says_made m)) × (result.end ≡ end_after end (command_end params) (says_made m)) × (result.word ≡ word (says_made m)) }
 {
     match m {
-        Made::Done {
-            number: _,
-            next,
-            count,
-        } => Said {
-            number: next.number,
+        Ok(made) => Said {
+            number: made.next.number,
             end: 12 + 4 * layout::least(params, 5),
-            word: answer::told(Written::Done(count)),
+            word: answer::told(Ok(made.count)),
         },
-        Made::Refused(f) => Said {
+        Err(f) => Said {
             number,
             end,
-            word: answer::told(Written::Refused(f)),
+            word: answer::told(Err(f)),
         },
     }
 }
@@ -111,17 +108,20 @@ pub extern "C" fn ptp_set_value(
     s.word
 }
 
-fn give_answer(s: &[u8], number: u32, out: &mut [u64]) -> Written
-    ensures { Wrote (given reply_row (answer_in number s.now)) out.old (says_written result) out.new }
+fn answer_row(found: Found, next: usize) -> [u64; 4]
+    ensures { result ≡ next ∷ reply_row (reply_from found) }
 {
-    match session::find_answer(s, number) {
-        Found::Payload(p, next) => answer::give(
-            &[next.at as u64, 0x2001, p.start as u64, p.count as u64],
-            out,
-        ),
-        Found::Response(code, next) => answer::give(&[next.at as u64, code as u64, 0, 0], out),
-        Found::Refused(f) => Written::Refused(f),
+    match found {
+        Found::Payload(p) => [next as u64, 0x2001, p.start as u64, p.count as u64],
+        Found::Response(code) => [next as u64, code as u64, 0, 0],
     }
+}
+
+fn give_answer(s: &[u8], number: u32, out: &mut [u64]) -> Result<usize, Refusal>
+    ensures { Wrote (given reply_row (answer_in number s.now)) out.old (says_count result) out.new }
+{
+    let (x, next) = session::find_answer(s, number)?;
+    answer::give(&answer_row(x, next.at), out)
 }
 
 // The place after the Response, its code, and the start and length of the last Data payload.
@@ -158,13 +158,11 @@ fn response_numbers(x: Response, next: usize) -> [u64; 6]
     ]
 }
 
-fn give_response(s: &[u8], number: u32, out: &mut [u64]) -> Written
-    ensures { Wrote (given response_row (response_in number s.now)) out.old (says_written result) out.new }
+fn give_response(s: &[u8], number: u32, out: &mut [u64]) -> Result<usize, Refusal>
+    ensures { Wrote (given response_row (response_in number s.now)) out.old (says_count result) out.new }
 {
-    match session::find_response(s, number) {
-        ReadResponse::Got(x, next) => answer::give(&response_numbers(x, next.at), out),
-        ReadResponse::Refused(f) => Written::Refused(f),
-    }
+    let (x, next) = session::find_response(s, number)?;
+    answer::give(&response_numbers(x, next.at), out)
 }
 
 // The numbers of `ptp_find_answer`; then where the Response's own parameters start, and how many of four bytes there are.

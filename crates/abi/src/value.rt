@@ -1,6 +1,7 @@
 // A value at a place by its type code, what is asked of one, and a list of them step by step or, of integers, all at once.
+ghost use Rattle.layout.specs.Answer.{says_count};
 ghost use Rattle.std.specs.Prelude.{◌≡◌, ◌∷◌};
-ghost use Rattle.layout.specs.Written.{Wrote, said_of, says_written};
+ghost use Rattle.layout.specs.Written.{Wrote, said_of};
 ghost use Rattle.wire.specs.Codecs.{text};
 ghost use Rattle.wire.specs.List.{step_at};
 ghost use Rattle.wire.specs.Numbers.{numbers_at};
@@ -10,8 +11,8 @@ ghost use Rattle.abi.specs.Answered.{Gives, given};
 ghost use Rattle.abi.specs.Rows.{number_row, value_row, step_said};
 
 use crate::answer;
-use layout::Written;
-use wire::{Cursor, ReadU16, ReadValue, Step, Value};
+use layout::Refusal;
+use wire::{Cursor, Read, Value};
 
 fn value_row(v: Value) -> [u64; 3]
     ensures { result ≡ value_row (located v) }
@@ -33,13 +34,11 @@ fn placed_row(v: Value, next: usize) -> [u64; 4]
     [next as u64, x[0], x[1], x[2]]
 }
 
-fn give_read(r: ReadValue, out: &mut [u64]) -> Written
-    ensures { Wrote (given value_row (says_value r)) out.old (says_written result) out.new }
+fn give_read(r: Read<Value>, out: &mut [u64]) -> Result<usize, Refusal>
+    ensures { Wrote (given value_row (says_value r)) out.old (says_count result) out.new }
 {
-    match r {
-        ReadValue::Got(v, next) => answer::give(&placed_row(v, next.at), out),
-        ReadValue::Refused(f) => Written::Refused(f),
-    }
+    let (v, next) = r?;
+    answer::give(&placed_row(v, next.at), out)
 }
 
 // The place after it, what it is, and its two numbers.
@@ -58,13 +57,11 @@ pub extern "C" fn ptp_item(s: &[u8], at: usize, code: u16, n: usize, out: &mut [
     answer::told(give_read((Cursor { at }).item(s, code, n), out))
 }
 
-fn give_unit(s: &[u8], at: usize, n: usize, out: &mut [u64]) -> Written
-    ensures { Wrote (given number_row (unit_at n s.now at)) out.old (says_written result) out.new }
+fn give_unit(s: &[u8], at: usize, n: usize, out: &mut [u64]) -> Result<usize, Refusal>
+    ensures { Wrote (given number_row (unit_at n s.now at)) out.old (says_count result) out.new }
 {
-    match (Cursor { at }).unit(s, n) {
-        ReadU16::Got(u, next) => answer::give(&[next.at as u64, u as u64], out),
-        ReadU16::Refused(f) => Written::Refused(f),
-    }
+    let (u, next) = (Cursor { at }).unit(s, n)?;
+    answer::give(&[next.at as u64, u as u64], out)
 }
 
 // Of the n-th unit of the string at a place: the place after it, and the unit.
@@ -82,12 +79,12 @@ fn step_row(v: Value, next: usize, left: u16) -> [u64; 5]
     [next as u64, left as u64, x[0], x[1], x[2]]
 }
 
-fn give_step(s: &[u8], code: u16, at: usize, left: u16, out: &mut [u64]) -> Written
-    ensures { Wrote (step_said (step_at s.now code at left 0)) out.old (says_written result) out.new }
+fn give_step(s: &[u8], code: u16, at: usize, left: u16, out: &mut [u64]) -> Result<usize, Refusal>
+    ensures { Wrote (step_said (step_at s.now code at left 0)) out.old (says_count result) out.new }
 {
     match wire::step_at(s, code, at, left, 0) {
-        Step::Next(v, next, rest) => answer::give(&step_row(v, next, rest), out),
-        Step::End => Written::Done(0),
+        Some(step) => answer::give(&step_row(step.value, step.at, step.left), out),
+        None => Ok(0),
     }
 }
 

@@ -7,7 +7,6 @@ ghost use Rattle.abi.specs.Answered.{Tells, Gives};
 ghost use Rattle.abi.specs.Listed.{ListsInto};
 
 use crate::answer;
-use layout::Written;
 use listing::Tally;
 
 #[unsafe(no_mangle)]
@@ -31,15 +30,16 @@ pub extern "C" fn ptp_list_window(
     ensures { Tells (ListsInto (window_of last (length out.old) s.now place records) out.old counts.old out.new counts.new) result }
 {
     if counts.len() < 4 {
-        return answer::told(Written::Refused(layout::plain(layout::ROOM)));
+        return answer::told(Err(layout::plain(layout::ROOM)));
     }
     let w = listing::list_window(s, last, Tally { place, records }, out);
     let after = w.tally;
-    answer::give(
+    // four numbers have room
+    let _ = answer::give(
         &[w.used as u64, after.place, after.records, w.stopped as u64],
         counts,
     );
-    answer::told(Written::Done(w.written))
+    answer::told(Ok(w.written))
 }
 
 // The last line: so many whole records, and their bytes.

@@ -1,6 +1,7 @@
 // What a caller writes: integers, strings, arrays, tidy values and records, containers, records of a recording.
+ghost use Rattle.layout.specs.Answer.{says_count};
 ghost use Rattle.std.specs.Prelude.{◌≡◌};
-ghost use Rattle.layout.specs.Written.{Wrote, says_written, tidied};
+ghost use Rattle.layout.specs.Written.{Wrote, tidied};
 ghost use Rattle.recording.specs.Record.{record_said};
 ghost use Rattle.wire.specs.Codecs.{value, row};
 ghost use Rattle.wire.specs.Container.{container_said};
@@ -10,7 +11,7 @@ ghost use Rattle.abi.specs.Answered.{Gives};
 ghost use Rattle.abi.specs.Integers.{integer_width, integer_said};
 
 use crate::answer;
-use layout::Written;
+use layout::Refusal;
 
 fn integer_width(code: u16) -> usize
     ensures { result ≡ integer_width code }
@@ -33,21 +34,21 @@ fn integer_width(code: u16) -> usize
     if code <= 10 { 16 } else { 0 }
 }
 
-fn put_integer(code: u16, low: u64, high: u64, out: &mut [u8]) -> Written
-    ensures { Wrote (integer_said code low high) out.old (says_written result) out.new }
+fn put_integer(code: u16, low: u64, high: u64, out: &mut [u8]) -> Result<usize, Refusal>
+    ensures { Wrote (integer_said code low high) out.old (says_count result) out.new }
 {
     let w = integer_width(code);
     if w == 0 {
-        return Written::Refused(layout::plain(layout::PLACE));
+        return Err(layout::plain(layout::PLACE));
     }
     if out.len() < w {
-        return Written::Refused(layout::plain(layout::ROOM));
+        return Err(layout::plain(layout::ROOM));
     }
     if w == 16 {
         let half = layout::store(out, 0, 8, low);
-        return Written::Done(layout::store(out, half, 8, high));
+        return Ok(layout::store(out, half, 8, high));
     }
-    Written::Done(layout::store(out, 0, w, low))
+    Ok(layout::store(out, 0, w, low))
 }
 
 // An integer of one of the types 1 to 10 by the low bytes of its word, of 128 bits by two words.

@@ -13,170 +13,140 @@ const MOST_WORDS: usize = 11;
 // last bytes or word, and of the room, again by name.
 #[derive(Clone, Copy)]
 pub(crate) struct Args {
-    pub numbers: [usize; 11],
-    pub counts: [usize; 11],
+    pub numbers: [usize; MOST_WORDS],
+    pub counts: [usize; MOST_WORDS],
     pub start: usize,
     pub count: usize,
     pub room: usize,
-    pub ok: bool,
     // how many words are read, the place in the line behind them, and in the lent numbers behind their lists
     n: usize,
     at: usize,
     used: usize,
 }
 
-#[derive(Drop)]
-struct Got {
+// A word's number and count.
+#[derive(Clone, Copy)]
+struct Word {
     number: usize,
     count: usize,
-    ok: bool,
 }
 
+// The largest number that a letter's words may be.
 fn most(letter: u8) -> u64 {
     match letter {
-        b'1' | b'o' => 0xFF,
-        b'2' | b'h' => 0xFFFF,
-        b'4' | b'n' => 0xFFFF_FFFF,
+        b'1' => u64::from(u8::MAX),
+        b'2' => u64::from(u16::MAX),
+        b'4' => u64::from(u32::MAX),
+        b'e' => 2,
         b'r' => 1048576,
         b'm' => 4096,
-        _ => 0xFFFF_FFFF_FFFF_FFFF,
+        _ => u64::MAX,
     }
 }
 
-fn a_number(letter: u8, w: &[u8]) -> Got {
-    let n = number::parse(w, most(letter));
-    Got {
-        number: n.v as usize,
+fn a_number(letter: u8, w: &[u8]) -> Option<Word> {
+    let n = number::parse(w, most(letter))?;
+    Some(Word {
+        number: n as usize,
         count: 0,
-        ok: n.ok,
-    }
+    })
 }
 
 // One of two words: 0 for the first, 1 for the second.
-fn either(w: &[u8], first: &[u8], second: &[u8]) -> Got {
-    let is_second = slice::same(w, second);
-    Got {
-        number: is_second as usize,
-        count: 0,
-        ok: is_second || slice::same(w, first),
+fn either(w: &[u8], first: &[u8], second: &[u8]) -> Option<Word> {
+    let is_second = w == second;
+    if !is_second && w != first {
+        return None;
     }
+    Some(Word {
+        number: usize::from(is_second),
+        count: 0,
+    })
 }
 
-fn an_edition(w: &[u8]) -> Got {
-    let n = number::parse(w, 2);
-    Got {
-        number: n.v as usize,
-        count: 0,
-        ok: n.ok && 0 < n.v,
-    }
+fn a_list(w: &[u8], most: u32, numbers: &mut [u32], used: usize) -> Option<Word> {
+    let room = slice::counted_mut(numbers, used, MOST_NUMBERS);
+    Some(Word {
+        number: used,
+        count: many::list(w, most, room)?,
+    })
 }
 
-fn one(letter: u8, w: &mut [u8], start: usize, numbers: &mut [u32], used: usize) -> Got {
+fn one(letter: u8, w: &mut [u8], start: usize, numbers: &mut [u32], used: usize) -> Option<Word> {
     match letter {
-        b'b' => {
-            let n = many::hex_bytes(w);
-            Got {
-                number: start,
-                count: n.n,
-                ok: n.ok,
-            }
-        }
-        b'o' | b'h' | b'n' => {
-            let n = many::list(
-                w,
-                most(letter),
-                slice::part32_mut(numbers, used, MOST_NUMBERS),
-            );
-            Got {
-                number: used,
-                count: n.n,
-                ok: n.ok,
-            }
-        }
+        b'b' => Some(Word {
+            number: start,
+            count: many::hex_bytes(w)?,
+        }),
+        b'o' => a_list(w, u32::from(u8::MAX), numbers, used),
+        b'h' => a_list(w, u32::from(u16::MAX), numbers, used),
+        b'n' => a_list(w, u32::MAX, numbers, used),
         b'l' => either(w, b"crate", b"book"),
         b'd' => either(w, b"in", b"out"),
-        b'e' => an_edition(w),
+        b'e' => a_number(letter, w).filter(|edition| edition.number > 0),
         b'k' => either(w, b"any", b"own"),
-        b'w' => Got {
+        b'w' => Some(Word {
             number: start,
             count: w.len(),
-            ok: true,
-        },
+        }),
         _ => a_number(letter, w),
     }
 }
 
-fn is_list(letter: u8) -> bool {
-    letter == b'o' || letter == b'h' || letter == b'n'
-}
-
 impl Args {
-    fn and(self, letter: u8, g: Got, at: usize) -> Args {
-        let mut a = self;
-        let n = a.n;
-        if n < MOST_WORDS {
-            a.numbers[n] = g.number;
-            a.counts[n] = g.count;
-            a.n = n + 1;
-        } else {
-            a.ok = false;
+    // None of the words that stand behind a place of the line.
+    fn none_at(at: usize) -> Args {
+        Args {
+            numbers: [0; MOST_WORDS],
+            counts: [0; MOST_WORDS],
+            start: 0,
+            count: 0,
+            room: 0,
+            n: 0,
+            at,
+            used: 0,
         }
-        if letter == b'b' || letter == b'w' {
-            a.start = g.number;
-            a.count = g.count;
-        }
-        if letter == b'r' {
-            a.room = g.number;
-        }
-        if is_list(letter) {
-            a.used = std::num::wrapping_add_usize(a.used, MOST_NUMBERS);
-        }
-        a.at = at;
-        if !g.ok {
-            a.ok = false;
-        }
-        a
     }
 
-    fn ended(self, ok: bool) -> Args {
-        let mut a = self;
-        if !ok {
-            a.ok = false;
+    fn and(&mut self, letter: u8, word: Word) -> Option<()> {
+        *self.numbers.get_mut(self.n)? = word.number;
+        *self.counts.get_mut(self.n)? = word.count;
+        self.n += 1;
+        match letter {
+            b'b' | b'w' => {
+                self.start = word.number;
+                self.count = word.count;
+            }
+            b'r' => self.room = word.number,
+            b'o' | b'h' | b'n' => self.used = self.used.wrapping_add(MOST_NUMBERS),
+            _ => {}
         }
-        a
+        Some(())
     }
-}
 
-fn next(a: Args, letter: u8, line: &mut [u8], numbers: &mut [u32]) -> Args {
-    let at = a.at;
-    if line.len() <= at {
-        return a.ended(false);
+    // The word behind the space at the place.
+    fn read_next(&mut self, letter: u8, line: &mut [u8], numbers: &mut [u32]) -> Option<()> {
+        let start = self.at.checked_add(1)?;
+        let rest = line.get_mut(start..)?;
+        let end = slice::find(rest, b' ');
+        let word = one(letter, &mut rest[..end], start, numbers, self.used)?;
+        self.at = start.checked_add(end)?;
+        self.and(letter, word)
     }
-    let end = slice::find(line, at + 1, b' ');
-    let w = slice::part_mut(line, at + 1, end);
-    let g = one(letter, w, at + 1, numbers, a.used);
-    a.and(letter, g, end)
 }
 
 // The words behind a place of the line, one for each letter, and nothing after them.
-pub(crate) fn read(signature: &[u8], line: &mut [u8], at: usize, numbers: &mut [u32]) -> Args {
-    let mut a = Args {
-        numbers: [0usize; 11],
-        counts: [0usize; 11],
-        start: 0,
-        count: 0,
-        room: 0,
-        ok: true,
-        n: 0,
-        at,
-        used: 0,
-    };
-    let mut i: usize = 0;
-    while i < signature.len() {
-        a = next(a, signature[i], line, numbers);
-        i += 1;
+pub(crate) fn read(
+    signature: &[u8],
+    line: &mut [u8],
+    at: usize,
+    numbers: &mut [u32],
+) -> Option<Args> {
+    let mut a = Args::none_at(at);
+    for letter in signature {
+        a.read_next(*letter, line, numbers)?;
     }
-    a.ended(a.at == line.len())
+    (a.at == line.len()).then_some(a)
 }
 
 pub(crate) fn low8(x: usize) -> u8 {

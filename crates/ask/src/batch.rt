@@ -1,7 +1,7 @@
 // All numbers of a row and all units of a string, in one call each. What was lent is printed whole, by runs.
 use crate::args::{Args, low16};
 use crate::print::Answers;
-use crate::{objects, print, show, slice, told, width};
+use crate::{print, show, slice, told, width};
 use wire::Cursor;
 
 // For the most units that an answer may have room for, filled.
@@ -19,8 +19,8 @@ pub(crate) fn numbers(a: Args, src: &[u8], text: &mut Answers, at: usize) -> usi
 
 pub(crate) fn units(a: Args, src: &[u8], text: &mut Answers, at: usize) -> usize {
     let mut room = units_room();
-    let out = slice::part16_mut(&mut room, a.numbers[2]);
+    let out = slice::front_mut(&mut room, a.numbers[2]);
     let w = (Cursor { at: a.numbers[0] }).units(src, out);
     let o = show::tell(text, at, src, told::written(w));
-    objects::put16(text, o, out)
+    print::put_list(text, o, out)
 }

@@ -1,14 +1,14 @@
 // The fields of the datasets as pieces.
+use crate::show;
 use crate::told::Told;
-use crate::{print, show};
-use wire::{DeviceInfo, Enable, Form, ObjectInfo, PropInfo, StorageInfo};
+use wire::{DeviceInfo, Form, ObjectInfo, PropInfo, StorageInfo};
 
 pub(crate) fn device(t: Told, d: DeviceInfo) -> Told {
-    let mut r = t.number(d.version as u64);
-    r = r.number(d.vendor_ex_id as u64);
-    r = r.number(d.vendor_ex_version as u64);
+    let mut r = t.number(u64::from(d.version));
+    r = r.number(u64::from(d.vendor_ex_id));
+    r = r.number(u64::from(d.vendor_ex_version));
     r = show::text(r, d.vendor_extension_desc);
-    r = r.number(d.functional_mode as u64);
+    r = r.number(u64::from(d.functional_mode));
     r = show::array(r, d.operations_supported);
     r = show::array(r, d.events_supported);
     r = show::array(r, d.device_properties_supported);
@@ -21,21 +21,21 @@ pub(crate) fn device(t: Told, d: DeviceInfo) -> Told {
 }
 
 pub(crate) fn object(t: Told, d: ObjectInfo) -> Told {
-    let mut r = t.number(print::wide32(d.storage_id));
-    r = r.number(print::wide16(d.object_format));
-    r = r.number(print::wide16(d.protection_status));
-    r = r.number(print::wide32(d.object_compressed_size));
-    r = r.number(print::wide16(d.thumb_format));
-    r = r.number(print::wide32(d.thumb_compressed_size));
-    r = r.number(print::wide32(d.thumb_pix_width));
-    r = r.number(print::wide32(d.thumb_pix_height));
-    r = r.number(print::wide32(d.image_pix_width));
-    r = r.number(print::wide32(d.image_pix_height));
-    r = r.number(print::wide32(d.image_bit_depth));
-    r = r.number(print::wide32(d.parent_object));
-    r = r.number(print::wide16(d.association_type));
-    r = r.number(print::wide32(d.association_desc));
-    r = r.number(print::wide32(d.sequence_number));
+    let mut r = t.number(u64::from(d.storage_id));
+    r = r.number(u64::from(d.object_format));
+    r = r.number(u64::from(d.protection_status));
+    r = r.number(u64::from(d.object_compressed_size));
+    r = r.number(u64::from(d.thumb_format));
+    r = r.number(u64::from(d.thumb_compressed_size));
+    r = r.number(u64::from(d.thumb_pix_width));
+    r = r.number(u64::from(d.thumb_pix_height));
+    r = r.number(u64::from(d.image_pix_width));
+    r = r.number(u64::from(d.image_pix_height));
+    r = r.number(u64::from(d.image_bit_depth));
+    r = r.number(u64::from(d.parent_object));
+    r = r.number(u64::from(d.association_type));
+    r = r.number(u64::from(d.association_desc));
+    r = r.number(u64::from(d.sequence_number));
     r = show::text(r, d.filename);
     r = show::text(r, d.capture_date);
     r = show::text(r, d.modification_date);
@@ -43,12 +43,12 @@ pub(crate) fn object(t: Told, d: ObjectInfo) -> Told {
 }
 
 pub(crate) fn storage(t: Told, d: StorageInfo) -> Told {
-    let mut r = t.number(d.storage_type as u64);
-    r = r.number(d.filesystem_type as u64);
-    r = r.number(d.access_capability as u64);
+    let mut r = t.number(u64::from(d.storage_type));
+    r = r.number(u64::from(d.filesystem_type));
+    r = r.number(u64::from(d.access_capability));
     r = r.number(d.max_capacity);
     r = r.number(d.free_space_in_bytes);
-    r = r.number(d.free_space_in_images as u64);
+    r = r.number(u64::from(d.free_space_in_images));
     r = show::text(r, d.storage_description);
     show::text(r, d.volume_label)
 }
@@ -61,15 +61,20 @@ fn form(t: Told, code: u16, f: Form) -> Told {
             let b = show::slot(a, code, high, 1);
             show::slot(b, code, step, 1)
         }
-        Form::List(s, count) => show::slot(t.word(b"list").number(count as u64), code, s, count),
+        Form::List(s, count) => show::slot(
+            t.word(b"list").number(u64::from(count)),
+            code,
+            s,
+            count,
+        ),
     }
 }
 
 // A byte, or `-` where the layout has none.
-fn enable(t: Told, e: Enable) -> Told {
+fn enable(t: Told, e: Option<u8>) -> Told {
     match e {
-        Enable::There(b) => t.number(b as u64),
-        Enable::Absent => t.word(b"-"),
+        Some(b) => t.number(u64::from(b)),
+        None => t.word(b"-"),
     }
 }
 
@@ -77,9 +82,9 @@ pub(crate) fn property(t: Told, d: PropInfo) -> Told {
     let code = d.data_type;
     let enabled = d.is_enable;
     let shape = d.form;
-    let mut r = t.number(d.property_code as u64);
-    r = r.number(code as u64);
-    r = r.number(d.get_set as u64);
+    let mut r = t.number(u64::from(d.property_code));
+    r = r.number(u64::from(code));
+    r = r.number(u64::from(d.get_set));
     r = enable(r, enabled);
     r = show::slot(r, code, d.factory_default, 1);
     r = show::slot(r, code, d.current, 1);

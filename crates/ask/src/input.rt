@@ -1,6 +1,5 @@
 // Standard input, block by block: the lines lie in one lent buffer, and what is left of the last is moved to its front.
-use crate::slice;
-use stream::Came;
+ghost use Rattle.std.specs.Prelude.{◌≤◌, ◌<◌, IfSome};
 
 const MOST_LINE: usize = 1200000;
 
@@ -11,57 +10,31 @@ pub(crate) struct Held {
     pub is_long: bool,
 }
 
-// The place after all that came, and whether the reading went well.
-#[derive(Clone, Copy)]
-pub(crate) struct Filled {
-    pub end: usize,
-    pub ok: bool,
-}
-
 // The buffer for the longest line and a block behind it.
 pub(crate) fn room() -> [u8; 1265536] {
     [0u8; 1265536]
 }
 
-// Behind what was there; what came has room.
-fn behind(end: usize, n: usize, size: usize) -> Filled {
-    if end <= size {
-        if n <= size - end {
-            return Filled {
-                end: end + n,
-                ok: true,
-            };
-        }
-    }
-    Filled { end, ok: false }
-}
-
-// The one function that reads: once, behind what is there. The end stays where it is where nothing came; what failed is told.
-pub(crate) fn more(rt: &HostRuntime, lines: &mut [u8], end: usize) -> Filled {
-    let size = lines.len();
-    match stream::read_some(
+// The one function that reads: once, behind what is there. The place after all that came, which stays where it is where nothing came; none
+// where the reading failed, which is told.
+pub(crate) fn more(rt: &HostRuntime, lines: &mut [u8], end: usize) -> Option<usize> {
+    let room = lines.get_mut(end..)?;
+    let n = stream::read_some(
         &mut rt.stdin(),
-        slice::part_mut(lines, end, size),
+        room,
         b"ask: reading standard input",
         &rt.stderr(),
-    ) {
-        Came::Bytes(n) => behind(end, n, size),
-        Came::Failed => Filled { end, ok: false },
-    }
+    )
+    .ok()?;
+    end.checked_add(n)
 }
 
-fn move_front(lines: &mut [u8], start: usize, end: usize) -> usize {
-    let mut i = start;
-    let mut o: usize = 0;
-    while i < end {
-        if lines.len() <= i {
-            return o;
-        }
-        lines[o] = lines[i];
-        i += 1;
-        o += 1;
-    }
-    o
+// Where the line ends that is seen up to a place: none where what came ends before it.
+pub(crate) fn line_end(lines: &[u8], seen: usize, end: usize) -> Option<usize>
+    ensures { IfSome result (λ stop. (seen ≤ stop) × (stop < end)) }
+{
+    let rest = lines.get(seen..end)?;
+    Some(seen + rest.iter().position(|b| *b == b'\n')?)
 }
 
 // Keeps what begins the next line; of a line that is too long, nothing.
@@ -69,16 +42,19 @@ pub(crate) fn keep(lines: &mut [u8], start: usize, end: usize, is_long: bool) ->
     if is_long {
         return Held { end: 0, is_long };
     }
-    let n = move_front(lines, start, end);
-    if MOST_LINE < n {
+    let n = end.saturating_sub(start);
+    if n > MOST_LINE {
         return Held {
             end: 0,
             is_long: true,
         };
     }
+    if start <= end && end <= lines.len() {
+        lines.copy_within(start..end, 0);
+    }
     Held { end: n, is_long }
 }
 
 pub(crate) fn is_too_long(line: &[u8]) -> bool {
-    MOST_LINE < line.len()
+    line.len() > MOST_LINE
 }

@@ -10,14 +10,14 @@ use crate::{reads, show, told};
 use wire::{Place, PropLayout, Step, Values};
 
 // The step from the list's beginning.
-fn first(l: PropLayout, src: &[u8]) -> Step
+fn first(l: PropLayout, src: &[u8]) -> Option<Step>
     ensures { says_step result ≡ step_at src.now (place_of (has_enable l) src.now).ty (place_of (has_enable l) src.now).at (place_of (has_enable l) src.now).left (place_of (has_enable l) src.now).refusal }
 {
     wire::next(wire::list_of(l, src))
 }
 
 // The step from where the one before it ended.
-fn later(src: &[u8], ty: u16, at: usize, left: u16, refusal: u8) -> Step
+fn later(src: &[u8], ty: u16, at: usize, left: u16, refusal: u8) -> Option<Step>
     ensures { says_step result ≡ step_at src.now ty at left refusal }
 {
     wire::next(wire::moved(
@@ -36,17 +36,15 @@ fn later(src: &[u8], ty: u16, at: usize, left: u16, refusal: u8) -> Step
 // How many steps there are before the end: no list has more than 65,535 values.
 fn steps(l: PropLayout, src: &[u8], ty: u16, refusal: u8) -> u64 {
     let mut step = first(l, src);
-    let mut n: u64 = 0;
-    while n < 65536 {
+    for n in 0..65536 {
         match step {
-            Step::Next(_, at, left) => {
-                step = later(src, ty, at, left, refusal);
+            Some(x) => {
+                step = later(src, ty, x.at, x.left, refusal);
             }
-            Step::End => return n,
+            None => return n,
         }
-        n += 1;
     }
-    n
+    65536
 }
 
 fn print_steps(
@@ -59,16 +57,14 @@ fn print_steps(
 ) -> usize {
     let mut step = first(l, src);
     let mut o = to;
-    let mut n: u64 = 0;
-    while n < 65536 {
+    for _ in 0..65536 {
         match step {
-            Step::Next(v, at, left) => {
-                o = show::put_value(text, o, src, ty, v);
-                step = later(src, ty, at, left, refusal);
+            Some(x) => {
+                o = show::put_value(text, o, src, ty, x.value);
+                step = later(src, ty, x.at, x.left, refusal);
             }
-            Step::End => return o,
+            None => return o,
         }
-        n += 1;
     }
     o
 }

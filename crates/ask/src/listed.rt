@@ -1,7 +1,7 @@
 // A recording's listing, window by window, with its line ends escaped.
 use crate::print::Answers;
 use crate::{print, slice};
-use layout::Written;
+use layout::Refusal;
 use listing::Tally;
 
 // The listing's numbers, and the place after its text.
@@ -21,20 +21,18 @@ fn put_escaped(text: &mut Answers, at: usize, b: u8) -> usize {
 
 fn escaped(text: &mut Answers, at: usize, s: &[u8]) -> usize {
     let mut o = at;
-    let mut i: usize = 0;
-    while i < s.len() {
-        o = put_escaped(text, o, s[i]);
-        i += 1;
+    for b in s {
+        o = put_escaped(text, o, *b);
     }
     o
 }
 
 // The heading, or the ending.
-fn escaped_writing(text: &mut Answers, at: usize, w: Written, out: &[u8]) -> usize {
+fn escaped_writing(text: &mut Answers, at: usize, w: Result<usize, Refusal>, out: &[u8]) -> usize {
     match w {
-        Written::Done(n) => escaped(text, at, slice::counted(out, 0, n)),
+        Ok(n) => escaped(text, at, slice::counted(out, 0, n)),
         // never: the room is larger than either
-        Written::Refused(_) => print::unknown(text, at),
+        Err(_) => print::unknown(text, at),
     }
 }
 
@@ -54,6 +52,7 @@ fn list_all(src: &[u8], out: &mut [u8], text: &mut Answers, at: usize) -> Shown 
     let mut records: u64 = 0;
     let mut from: usize = 0;
     let mut o = at;
+    // Counted by hand: each window says itself how far it comes.
     while from < src.len() {
         let done = listing::list_window(&src[from..], true, Tally { place, records }, out);
         let tally = done.tally;

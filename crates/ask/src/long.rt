@@ -1,11 +1,13 @@
 // The questions whose answers have no bound, or that need a list that is no writer's: their text is put as it comes.
 use crate::args::Args;
+use crate::objects::PathKind;
 use crate::print::Answers;
 use crate::told::Told;
 use crate::{
     batch, kept, list, listed, mended, objects, print, reads, recorded, show, slice, told,
 };
-use recording::Copied;
+use layout::Refusal;
+use recording::Left;
 use wire::Chosen;
 
 fn chosen(c: Chosen) -> Told {
@@ -28,9 +30,14 @@ fn newer(a: Args, line: &[u8], text: &mut Answers, at: usize) -> usize {
 }
 
 // The copier's answer, then the records and the bytes that were left out.
-fn print_copied(c: Copied, page: &[u8], text: &mut Answers, at: usize) -> usize {
+fn print_copied(
+    c: Result<(usize, Left), Refusal>,
+    page: &[u8],
+    text: &mut Answers,
+    at: usize,
+) -> usize {
     match c {
-        Copied::Done(n, left) => {
+        Ok((n, left)) => {
             let told = show::tell(text, at, page, told::ok().number(n as u64));
             let o = print::output(text, told, page);
             let a = print::put(text, o, b' ');
@@ -38,7 +45,7 @@ fn print_copied(c: Copied, page: &[u8], text: &mut Answers, at: usize) -> usize 
             let d = print::put(text, b, b' ');
             print::decimal(text, d, left.bytes as u64)
         }
-        Copied::Refused(f) => {
+        Err(f) => {
             let told = show::tell(text, at, page, told::refused(f));
             print::output(text, told, page)
         }
@@ -52,9 +59,8 @@ fn copy(a: Args, src: &[u8], text: &mut Answers, at: usize) -> usize {
     print_copied(c, page, text, at)
 }
 
-// By the letter of the question's arm.
 pub(crate) fn of(
-    arm: u8,
+    question: &str,
     a: Args,
     line: &[u8],
     src: &[u8],
@@ -62,28 +68,30 @@ pub(crate) fn of(
     text: &mut Answers,
     at: usize,
 ) -> usize {
-    match arm {
-        b'l' => list::answer(a, src, text, at),
-        b'n' => newer(a, line, text, at),
-        b'w' => objects::walk(a, line, numbers, text, at),
-        b'v' => objects::places(true, a, line, numbers, text, at),
-        b'K' => objects::places(false, a, line, numbers, text, at),
-        b'p' | b'V' | b'P' => objects::paths(arm, a, line, numbers, text, at),
-        b'd' => objects::delete(a, line, numbers, text, at),
-        b'D' => objects::delete_linked(a, line, numbers, text, at),
-        b'C' => objects::change(false, false, a, line, numbers, text, at),
-        b'G' => objects::change(false, true, a, line, numbers, text, at),
-        b'a' => objects::change(true, false, a, line, numbers, text, at),
-        b'A' => objects::change(true, true, a, line, numbers, text, at),
-        b'k' => objects::link(a, line, numbers, text, at),
-        b's' => kept::row(a, src, text, at),
-        b'f' => kept::find(a, src, numbers, text, at),
-        b'R' => recorded::answer(src, text, at),
-        b'c' => copy(a, src, text, at),
-        b'm' => mended::answer(a, src, text, at),
-        b'L' => listed::answer(src, text, at),
-        b'N' => batch::numbers(a, src, text, at),
-        b'u' => batch::units(a, src, text, at),
+    match question {
+        "list" => list::answer(a, src, text, at),
+        "newer" => newer(a, line, text, at),
+        "walk" => objects::walk(a, line, numbers, text, at),
+        "folders" => objects::places(true, a, line, numbers, text, at),
+        "linked-walk" => objects::places(false, a, line, numbers, text, at),
+        "paths" => objects::paths(PathKind::Walked, a, line, numbers, text, at),
+        "folder-paths" => objects::paths(PathKind::Viewed, a, line, numbers, text, at),
+        "linked-paths" => objects::paths(PathKind::Linked, a, line, numbers, text, at),
+        "delete" => objects::delete(a, line, numbers, text, at),
+        "linked-delete" => objects::delete_linked(a, line, numbers, text, at),
+        "collect" => objects::change(false, false, a, line, numbers, text, at),
+        "linked-collect" => objects::change(false, true, a, line, numbers, text, at),
+        "add" => objects::change(true, false, a, line, numbers, text, at),
+        "linked-add" => objects::change(true, true, a, line, numbers, text, at),
+        "link" => objects::link(a, line, numbers, text, at),
+        "settings" => kept::row(a, src, text, at),
+        "settings-find" => kept::find(a, src, numbers, text, at),
+        "recording" => recorded::answer(src, text, at),
+        "copy" => copy(a, src, text, at),
+        "mend" => mended::answer(a, src, text, at),
+        "listing" => listed::answer(src, text, at),
+        "numbers" => batch::numbers(a, src, text, at),
+        "units" => batch::units(a, src, text, at),
         _ => print::unknown(text, at),
     }
 }

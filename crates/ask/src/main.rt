@@ -1,5 +1,5 @@
 // Answers questions, one a line, from standard input (docs/ASK.md). A question is a row of the table in question.rt, an arm of its
-// group, and a function there. The words of a line are read by args, many, number, slice and table, brought to another width by width, and its answer is printed by told and
+// group, and a function there. The words of a line are read by args, many, number and slice, brought to another width by width, and its answer is printed by told and
 // print: these know no question.
 #![tactic(auto)]
 
@@ -23,7 +23,6 @@ mod reads;
 mod recorded;
 mod show;
 mod slice;
-mod table;
 mod told;
 mod width;
 mod writes;
@@ -31,8 +30,9 @@ mod writes;
 use args::Args;
 use input::Held;
 use print::Answers;
-use question::Question;
+use question::{Group, Question};
 use std::process::ExitCode;
+use std::str;
 
 // Where the first line stands that is not answered, and the place after the answers.
 #[derive(Drop)]
@@ -40,13 +40,6 @@ struct Done {
     start: usize,
     is_long: bool,
     at: usize,
-}
-
-// What is held after a block, and whether its answers are written.
-#[derive(Drop)]
-struct Turn {
-    held: Held,
-    ok: bool,
 }
 
 fn out_room() -> [u8; 1048576] {
@@ -60,7 +53,7 @@ fn numbers_room() -> [u32; 24576] {
 
 // A writer's output is filled before, and printed whole after its pieces.
 fn write(
-    arm: u8,
+    name: &str,
     a: Args,
     line: &[u8],
     src: &[u8],
@@ -70,7 +63,7 @@ fn write(
 ) -> usize {
     let mut out = out_room();
     let page = print::page(&mut out, a.room);
-    let t = writes::of(arm, a, line, src, numbers, page);
+    let t = writes::of(name, a, line, src, numbers, page);
     let o = show::tell(text, at, src, t);
     if !t.ok {
         return o;
@@ -79,7 +72,7 @@ fn write(
 }
 
 fn reply(
-    q: Question,
+    q: &Question,
     a: Args,
     line: &[u8],
     numbers: &[u32],
@@ -87,24 +80,27 @@ fn reply(
     at: usize,
 ) -> usize {
     let src = slice::counted(line, a.start, a.count);
-    if q.group == question::READS {
-        return show::tell(text, at, src, reads::of(q.arm, a, src));
+    match q.group {
+        Group::Reads => show::tell(text, at, src, reads::of(q.name, a, src)),
+        Group::Writes => write(q.name, a, line, src, numbers, text, at),
+        Group::Long => long::of(q.name, a, line, src, numbers, text, at),
     }
-    if q.group == question::WRITES {
-        return write(q.arm, a, line, src, numbers, text, at);
-    }
-    long::of(q.arm, a, line, src, numbers, text, at)
+}
+
+// A line's question, and its words.
+fn read(line: &mut [u8], numbers: &mut [u32]) -> Option<(Question, Args)> {
+    let end = slice::find(line, b' ');
+    let q = question::named(str::from_utf8(&line[..end]).ok()?)?;
+    let a = args::read(q.words, line, end, numbers)?;
+    Some((q, a))
 }
 
 fn answer(line: &mut [u8], text: &mut Answers, at: usize) -> usize {
     let mut numbers = numbers_room();
-    let end = slice::find(line, 0, b' ');
-    let q = question::named(slice::part(line, 0, end));
-    let a = question::read(q, line, end, &mut numbers);
-    if !q.ok || !a.ok {
-        return print::unknown(text, at);
+    match read(line, &mut numbers) {
+        Some((q, a)) => reply(&q, a, line, &numbers, text, at),
+        None => print::unknown(text, at),
     }
-    reply(q, a, line, &numbers, text, at)
 }
 
 // An answer with its line end; of a line that is too long not all is there.
@@ -123,11 +119,7 @@ fn answer_lines(lines: &mut [u8], held: Held, end: usize, text: &mut Answers) ->
     let mut seen = held.end;
     let mut is_long = held.is_long;
     let mut at: usize = 0;
-    while seen < end {
-        let stop = slice::find(slice::part(lines, 0, end), seen, b'\n');
-        if end <= stop {
-            return Done { start, is_long, at };
-        }
+    while let Some(stop) = input::line_end(lines, seen, end) {
         at = answer_line(slice::part_mut(lines, start, stop), is_long, text, at);
         if print::is_lost(text, at) {
             return Done { start, is_long, at };
@@ -141,21 +133,20 @@ fn answer_lines(lines: &mut [u8], held: Held, end: usize, text: &mut Answers) ->
 
 // The last line, which has no end, if there is one.
 fn answer_last(lines: &mut [u8], held: Held, text: &mut Answers) {
-    let end = held.end;
-    let is_long = held.is_long;
-    if is_long || 0 < end {
-        let at = answer_line(slice::part_mut(lines, 0, end), is_long, text, 0);
+    if held.is_long || held.end > 0 {
+        let line = slice::front_mut(lines, held.end);
+        let at = answer_line(line, held.is_long, text, 0);
         print::flush(text, at);
     }
 }
 
-fn answer_block(lines: &mut [u8], held: Held, end: usize, text: &mut Answers) -> Turn {
+// What is held after a block, where its answers are written.
+fn answer_block(lines: &mut [u8], held: Held, end: usize, text: &mut Answers) -> Option<Held> {
     let done = answer_lines(lines, held, end, text);
-    let ok = print::flush(text, done.at);
-    Turn {
-        held: input::keep(lines, done.start, end, done.is_long),
-        ok,
+    if !print::flush(text, done.at) {
+        return None;
     }
+    Some(input::keep(lines, done.start, end, done.is_long))
 }
 
 // Until the input ends, or a reading or a writing fails.
@@ -165,22 +156,18 @@ fn run(rt: &HostRuntime, lines: &mut [u8], text: &mut Answers) {
         is_long: false,
     };
     // the input ends before the turns do
-    let mut turns = u64::MAX;
-    while turns > 0 {
-        let came = input::more(rt, lines, held.end);
-        if !came.ok {
+    for _ in 0..u64::MAX {
+        let Some(end) = input::more(rt, lines, held.end) else {
             return;
-        }
-        if came.end == held.end {
+        };
+        if end == held.end {
             answer_last(lines, held, text);
             return;
         }
-        let turn = answer_block(lines, held, came.end, text);
-        if !turn.ok {
+        let Some(kept) = answer_block(lines, held, end, text) else {
             return;
-        }
-        held = turn.held;
-        turns -= 1;
+        };
+        held = kept;
     }
 }
 

@@ -3,7 +3,7 @@ use crate::args::Args;
 use crate::print::Answers;
 use crate::told::Told;
 use crate::{print, show, told};
-use mending::Mended;
+use layout::Refusal;
 
 // For the most stretches that a report may have room for.
 fn report_room() -> [u64; 4096] {
@@ -16,14 +16,19 @@ fn put_output(text: &mut Answers, at: usize, t: Told, page: &[u8]) -> usize {
     print::output(text, o, page)
 }
 
-fn put_answer(text: &mut Answers, at: usize, m: Mended, page: &[u8]) -> usize {
+fn put_answer(
+    text: &mut Answers,
+    at: usize,
+    m: Result<(usize, usize), Refusal>,
+    page: &[u8],
+) -> usize {
     match m {
-        Mended::Done(count, stretches) => {
+        Ok((count, stretches)) => {
             let o = put_output(text, at, told::ok().number(count as u64), page);
             let a = print::put(text, o, b' ');
             print::decimal(text, a, stretches as u64)
         }
-        Mended::Refused(f) => put_output(text, at, told::refused(f), page),
+        Err(f) => put_output(text, at, told::refused(f), page),
     }
 }
 

@@ -4,24 +4,23 @@ use crate::args::{Args, low32};
 use crate::print::Answers;
 use crate::told::Told;
 use crate::{print, show, slice, told, width};
-use layout::Written;
-use shots::Added;
-use tree::{Checked, Order};
+use layout::Refusal;
+use tree::Order;
 
 fn handles(a: Args, numbers: &[u32]) -> &[u32] {
-    slice::part32(numbers, a.numbers[0], a.counts[0])
+    slice::counted(numbers, a.numbers[0], a.counts[0])
 }
 
 fn parents(a: Args, numbers: &[u32]) -> &[u32] {
-    slice::part32(numbers, a.numbers[1], a.counts[1])
+    slice::counted(numbers, a.numbers[1], a.counts[1])
 }
 
 fn ends(a: Args, numbers: &[u32]) -> &[u32] {
-    slice::part32(numbers, a.numbers[2], a.counts[2])
+    slice::counted(numbers, a.numbers[2], a.counts[2])
 }
 
 fn marks(a: Args, numbers: &[u32]) -> &[u32] {
-    slice::part32(numbers, a.numbers[3], a.counts[3])
+    slice::counted(numbers, a.numbers[3], a.counts[3])
 }
 
 fn names(a: Args, line: &[u8]) -> &[u8] {
@@ -29,11 +28,11 @@ fn names(a: Args, line: &[u8]) -> &[u8] {
 }
 
 fn first(a: Args, numbers: &[u32]) -> &[u32] {
-    slice::part32(numbers, a.numbers[6], a.counts[6])
+    slice::counted(numbers, a.numbers[6], a.counts[6])
 }
 
 fn next(a: Args, numbers: &[u32]) -> &[u32] {
-    slice::part32(numbers, a.numbers[7], a.counts[7])
+    slice::counted(numbers, a.numbers[7], a.counts[7])
 }
 
 // The lists that are lent for writing, filled.
@@ -45,25 +44,6 @@ fn stops_room() -> [u32; 1024] {
     [0xa5a5_a5a5u32; 1024]
 }
 
-// A space and the list, whole.
-fn put8(text: &mut Answers, at: usize, list: &[u8]) -> usize {
-    let mut room = width::longs_room();
-    let n = width::from8(list, &mut room);
-    print::put_list(text, at, slice::part64(&room, n))
-}
-
-pub(crate) fn put16(text: &mut Answers, at: usize, list: &[u16]) -> usize {
-    let mut room = width::longs_room();
-    let n = width::from16(list, &mut room);
-    print::put_list(text, at, slice::part64(&room, n))
-}
-
-fn put32(text: &mut Answers, at: usize, list: &[u32]) -> usize {
-    let mut room = width::longs_room();
-    let n = width::from32(list, &mut room);
-    print::put_list(text, at, slice::part64(&room, n))
-}
-
 fn put_order(text: &mut Answers, at: usize, line: &[u8], order: Order) -> usize {
     let refusal = order.refusal;
     if refusal.no != 0 {
@@ -71,19 +51,19 @@ fn put_order(text: &mut Answers, at: usize, line: &[u8], order: Order) -> usize 
     }
     let places = order.places;
     let o = print::put_all(text, at, b"ok");
-    put16(text, o, slice::part16(&places, order.count))
+    print::put_list(text, o, slice::front(&places, order.count))
 }
 
 pub(crate) fn walk(a: Args, line: &[u8], numbers: &[u32], text: &mut Answers, at: usize) -> usize {
     let mut halves = width::halves_room();
     let mut bytes = width::bytes_room();
-    let p = width::to16(parents(a, numbers), &mut halves);
-    let m = width::to8(marks(a, numbers), &mut bytes);
+    let ps = width::to16(parents(a, numbers), &mut halves);
+    let ms = width::to8(marks(a, numbers), &mut bytes);
     let order = tree::walk(
         handles(a, numbers),
-        slice::part16(&halves, p),
+        ps,
         ends(a, numbers),
-        slice::part(&bytes, 0, m),
+        ms,
         a.numbers[4],
         names(a, line),
     );
@@ -99,37 +79,33 @@ fn some_places(
     parents: &[u16],
     marks: &[u8],
     places: &mut [u16],
-) -> Written {
+) -> Result<usize, Refusal> {
     let hs = handles(a, numbers);
     let es = ends(a, numbers);
     let ns = names(a, line);
     if is_view {
         return tree::folders_into(hs, parents, es, marks, a.numbers[4], ns, places);
     }
-    let mut fs = width::halves_room();
-    let mut xs = width::halves_room();
-    let f = width::to16(first(a, numbers), &mut fs);
-    let x = width::to16(next(a, numbers), &mut xs);
-    tree::walk_linked(
-        hs,
-        parents,
-        es,
-        marks,
-        a.numbers[4],
-        ns,
-        slice::part16(&fs, f),
-        slice::part16(&xs, x),
-        places,
-    )
+    let mut firsts = width::halves_room();
+    let mut nexts = width::halves_room();
+    let fs = width::to16(first(a, numbers), &mut firsts);
+    let xs = width::to16(next(a, numbers), &mut nexts);
+    tree::walk_linked(hs, parents, es, marks, a.numbers[4], ns, fs, xs, places)
 }
 
-fn put_places(text: &mut Answers, at: usize, line: &[u8], w: Written, places: &[u16]) -> usize {
+fn put_places(
+    text: &mut Answers,
+    at: usize,
+    line: &[u8],
+    w: Result<usize, Refusal>,
+    places: &[u16],
+) -> usize {
     match w {
-        Written::Done(n) => {
+        Ok(n) => {
             let o = print::put_all(text, at, b"ok");
-            put16(text, o, slice::part16(places, n))
+            print::put_list(text, o, slice::front(places, n))
         }
-        Written::Refused(f) => show::tell(text, at, line, told::refused(f)),
+        Err(f) => show::tell(text, at, line, told::refused(f)),
     }
 }
 
@@ -143,31 +119,23 @@ pub(crate) fn places(
 ) -> usize {
     let mut halves = width::halves_room();
     let mut bytes = width::bytes_room();
-    let p = width::to16(parents(a, numbers), &mut halves);
-    let m = width::to8(marks(a, numbers), &mut bytes);
+    let ps = width::to16(parents(a, numbers), &mut halves);
+    let ms = width::to8(marks(a, numbers), &mut bytes);
     let mut places = places_room();
-    let w = some_places(
-        is_view,
-        a,
-        line,
-        numbers,
-        slice::part16(&halves, p),
-        slice::part(&bytes, 0, m),
-        &mut places,
-    );
+    let w = some_places(is_view, a, line, numbers, ps, ms, &mut places);
     put_places(text, at, line, w, &places)
 }
 
 pub(crate) fn path(a: Args, line: &[u8], numbers: &[u32], page: &mut [u8]) -> Told {
     let mut halves = width::halves_room();
     let mut bytes = width::bytes_room();
-    let p = width::to16(parents(a, numbers), &mut halves);
-    let m = width::to8(marks(a, numbers), &mut bytes);
+    let ps = width::to16(parents(a, numbers), &mut halves);
+    let ms = width::to8(marks(a, numbers), &mut bytes);
     told::written(tree::path(
         handles(a, numbers),
-        slice::part16(&halves, p),
+        ps,
         ends(a, numbers),
-        slice::part(&bytes, 0, m),
+        ms,
         a.numbers[4],
         names(a, line),
         a.numbers[6],
@@ -176,27 +144,36 @@ pub(crate) fn path(a: Args, line: &[u8], numbers: &[u32], page: &mut [u8]) -> To
 }
 
 // The writer's answer, then where each path ends.
-fn put_paths(text: &mut Answers, at: usize, w: Written, page: &[u8], stops: &[u32]) -> usize {
+fn put_paths(
+    text: &mut Answers,
+    at: usize,
+    w: Result<usize, Refusal>,
+    page: &[u8],
+    stops: &[u32],
+) -> usize {
     match w {
-        Written::Done(n) => {
-            let told = show::tell(text, at, page, told::written(Written::Done(n)));
+        Ok(n) => {
+            let told = show::tell(text, at, page, told::written(Ok(n)));
             let o = print::output(text, told, page);
-            put32(text, o, stops)
+            print::put_list(text, o, stops)
         }
-        Written::Refused(f) => {
+        Err(f) => {
             let told = show::tell(text, at, page, told::refused(f));
             print::output(text, told, page)
         }
     }
 }
 
-// Which paths are asked for, by the letter of the question's arm.
-const WALKED: u8 = b'p';
-
-const VIEWED: u8 = b'V';
+// Which paths are asked for: the walk's, the folder view's, or those of a table that keeps its links.
+#[derive(Clone, Copy)]
+pub(crate) enum PathKind {
+    Walked,
+    Viewed,
+    Linked,
+}
 
 fn some_paths(
-    arm: u8,
+    which: PathKind,
     a: Args,
     line: &[u8],
     numbers: &[u32],
@@ -204,36 +181,26 @@ fn some_paths(
     marks: &[u8],
     page: &mut [u8],
     stops: &mut [u32],
-) -> Written {
+) -> Result<usize, Refusal> {
     let hs = handles(a, numbers);
     let es = ends(a, numbers);
     let ns = names(a, line);
-    if arm == WALKED {
-        return tree::paths(hs, parents, es, marks, a.numbers[4], ns, page, stops);
+    let count = a.numbers[4];
+    match which {
+        PathKind::Walked => tree::paths(hs, parents, es, marks, count, ns, page, stops),
+        PathKind::Viewed => tree::folder_paths(hs, parents, es, marks, count, ns, page, stops),
+        PathKind::Linked => {
+            let mut firsts = width::halves_room();
+            let mut nexts = width::halves_room();
+            let fs = width::to16(first(a, numbers), &mut firsts);
+            let xs = width::to16(next(a, numbers), &mut nexts);
+            tree::paths_linked(hs, parents, es, marks, count, ns, fs, xs, page, stops)
+        }
     }
-    if arm == VIEWED {
-        return tree::folder_paths(hs, parents, es, marks, a.numbers[4], ns, page, stops);
-    }
-    let mut fs = width::halves_room();
-    let mut xs = width::halves_room();
-    let f = width::to16(first(a, numbers), &mut fs);
-    let x = width::to16(next(a, numbers), &mut xs);
-    tree::paths_linked(
-        hs,
-        parents,
-        es,
-        marks,
-        a.numbers[4],
-        ns,
-        slice::part16(&fs, f),
-        slice::part16(&xs, x),
-        page,
-        stops,
-    )
 }
 
 pub(crate) fn paths(
-    arm: u8,
+    which: PathKind,
     a: Args,
     line: &[u8],
     numbers: &[u32],
@@ -242,28 +209,19 @@ pub(crate) fn paths(
 ) -> usize {
     let mut halves = width::halves_room();
     let mut bytes = width::bytes_room();
-    let p = width::to16(parents(a, numbers), &mut halves);
-    let m = width::to8(marks(a, numbers), &mut bytes);
+    let ps = width::to16(parents(a, numbers), &mut halves);
+    let ms = width::to8(marks(a, numbers), &mut bytes);
     let mut out = crate::out_room();
     let mut stops = stops_room();
     let page = print::page(&mut out, a.room);
-    let w = some_paths(
-        arm,
-        a,
-        line,
-        numbers,
-        slice::part16(&halves, p),
-        slice::part(&bytes, 0, m),
-        page,
-        &mut stops,
-    );
+    let w = some_paths(which, a, line, numbers, ps, ms, page, &mut stops);
     put_paths(text, at, w, page, &stops)
 }
 
-fn deleted(c: Checked) -> Told {
+fn deleted(c: Result<usize, Refusal>) -> Told {
     match c {
-        Checked::Whole(_) => told::ok(),
-        Checked::Refused(f) => told::refused(f),
+        Ok(_) => told::ok(),
+        Err(f) => told::refused(f),
     }
 }
 
@@ -276,39 +234,39 @@ pub(crate) fn delete(
 ) -> usize {
     let mut halves = width::halves_room();
     let mut bytes = width::bytes_room();
-    let p = width::to16(parents(a, numbers), &mut halves);
-    let m = width::to8(marks(a, numbers), &mut bytes);
+    let ps = width::to16(parents(a, numbers), &mut halves);
+    let ms = width::to8(marks(a, numbers), &mut bytes);
     let c = shots::delete(
         handles(a, numbers),
-        slice::part16(&halves, p),
+        ps,
         ends(a, numbers),
-        slice::part_mut(&mut bytes, 0, m),
+        ms,
         a.numbers[4],
         names(a, line),
         a.numbers[6],
     );
     let o = show::tell(text, at, line, deleted(c));
-    put8(text, o, slice::part(&bytes, 0, m))
+    print::put_list(text, o, ms)
 }
 
 // A space and each list of links, whole.
 fn put_links(text: &mut Answers, at: usize, first: &[u16], next: &[u16]) -> usize {
-    let o = put16(text, at, first);
-    put16(text, o, next)
+    let o = print::put_list(text, at, first);
+    print::put_list(text, o, next)
 }
 
 pub(crate) fn link(a: Args, line: &[u8], numbers: &[u32], text: &mut Answers, at: usize) -> usize {
     let mut halves = width::halves_room();
     let mut bytes = width::bytes_room();
-    let p = width::to16(parents(a, numbers), &mut halves);
-    let m = width::to8(marks(a, numbers), &mut bytes);
+    let ps = width::to16(parents(a, numbers), &mut halves);
+    let ms = width::to8(marks(a, numbers), &mut bytes);
     let mut fs = places_room();
     let mut xs = places_room();
     let c = tree::link(
         handles(a, numbers),
-        slice::part16(&halves, p),
+        ps,
         ends(a, numbers),
-        slice::part(&bytes, 0, m),
+        ms,
         a.numbers[4],
         names(a, line),
         &mut fs,
@@ -323,13 +281,13 @@ fn put_deleted(
     text: &mut Answers,
     at: usize,
     line: &[u8],
-    c: Checked,
+    c: Result<usize, Refusal>,
     marks: &[u8],
     first: &[u16],
     next: &[u16],
 ) -> usize {
     let o = show::tell(text, at, line, deleted(c));
-    let q = put8(text, o, marks);
+    let q = print::put_list(text, o, marks);
     put_links(text, q, first, next)
 }
 
@@ -340,34 +298,26 @@ pub(crate) fn delete_linked(
     text: &mut Answers,
     at: usize,
 ) -> usize {
-    let mut ps = width::halves_room();
-    let mut ms = width::bytes_room();
-    let mut fs = width::halves_room();
-    let mut xs = width::halves_room();
-    let p = width::to16(parents(a, numbers), &mut ps);
-    let m = width::to8(marks(a, numbers), &mut ms);
-    let f = width::to16(first(a, numbers), &mut fs);
-    let x = width::to16(next(a, numbers), &mut xs);
+    let mut halves = width::halves_room();
+    let mut bytes = width::bytes_room();
+    let mut firsts = width::halves_room();
+    let mut nexts = width::halves_room();
+    let ps = width::to16(parents(a, numbers), &mut halves);
+    let ms = width::to8(marks(a, numbers), &mut bytes);
+    let fs = width::to16(first(a, numbers), &mut firsts);
+    let xs = width::to16(next(a, numbers), &mut nexts);
     let c = shots::delete_linked(
         handles(a, numbers),
-        slice::part16(&ps, p),
+        ps,
         ends(a, numbers),
-        slice::part_mut(&mut ms, 0, m),
+        ms,
         a.numbers[4],
         names(a, line),
-        slice::part16_mut(&mut fs, f),
-        slice::part16_mut(&mut xs, x),
+        fs,
+        xs,
         a.numbers[8],
     );
-    put_deleted(
-        text,
-        at,
-        line,
-        c,
-        slice::part(&ms, 0, m),
-        slice::part16(&fs, f),
-        slice::part16(&xs, x),
-    )
+    put_deleted(text, at, line, c, ms, fs, xs)
 }
 
 // The five lists and the new places, whole.
@@ -381,25 +331,25 @@ fn put_table(
     names: &[u8],
     news: &[u16],
 ) -> usize {
-    let o = put32(text, at, handles);
-    let p = put16(text, o, parents);
-    let q = put32(text, p, ends);
-    let r = put8(text, q, marks);
+    let o = print::put_list(text, at, handles);
+    let p = print::put_list(text, o, parents);
+    let q = print::put_list(text, p, ends);
+    let r = print::put_list(text, q, marks);
     let s = print::output(text, r, names);
-    put16(text, s, news)
+    print::put_list(text, s, news)
 }
 
-fn collected(c: Checked) -> Told {
+fn collected(c: Result<usize, Refusal>) -> Told {
     match c {
-        Checked::Whole(n) => told::ok().number(n as u64),
-        Checked::Refused(f) => told::refused(f),
+        Ok(n) => told::ok().number(n as u64),
+        Err(f) => told::refused(f),
     }
 }
 
-fn added(x: Added) -> Told {
+fn added(x: Result<usize, Refusal>) -> Told {
     match x {
-        Added::At(place) => told::ok().number(place as u64),
-        Added::Refused(f) => told::refused(f),
+        Ok(place) => told::ok().number(place as u64),
+        Err(f) => told::refused(f),
     }
 }
 
@@ -513,31 +463,18 @@ fn change_lists(
     text: &mut Answers,
     at: usize,
 ) -> usize {
-    let mut hs = width::numbers_room();
-    let mut ps = width::halves_room();
-    let mut es = width::numbers_room();
-    let mut ms = width::bytes_room();
-    let mut ns = crate::out_room();
-    let h = width::to32(handles(a, numbers), &mut hs);
-    let p = width::to16(parents(a, numbers), &mut ps);
-    let e = width::to32(ends(a, numbers), &mut es);
-    let m = width::to8(marks(a, numbers), &mut ms);
-    let given = names(a, line);
-    let n = layout::copy(given, 0, given.len(), &mut ns, 0);
+    let mut longs = width::numbers_room();
+    let mut halves = width::halves_room();
+    let mut stops = width::numbers_room();
+    let mut bytes = width::bytes_room();
+    let mut letters = crate::out_room();
+    let hs = width::copied(handles(a, numbers), &mut longs);
+    let ps = width::to16(parents(a, numbers), &mut halves);
+    let es = width::copied(ends(a, numbers), &mut stops);
+    let ms = width::to8(marks(a, numbers), &mut bytes);
+    let ns = width::copied(names(a, line), &mut letters);
     put_changed(
-        is_added,
-        is_linked,
-        a,
-        line,
-        slice::part32_mut(&mut hs, 0, h),
-        slice::part16_mut(&mut ps, p),
-        slice::part32_mut(&mut es, 0, e),
-        slice::part_mut(&mut ms, 0, m),
-        slice::part_mut(&mut ns, 0, n),
-        first,
-        next,
-        text,
-        at,
+        is_added, is_linked, a, line, hs, ps, es, ms, ns, first, next, text, at,
     )
 }
 
@@ -551,19 +488,9 @@ pub(crate) fn change(
     text: &mut Answers,
     at: usize,
 ) -> usize {
-    let mut fs = width::halves_room();
-    let mut xs = width::halves_room();
-    let f = width::to16(first(a, numbers), &mut fs);
-    let x = width::to16(next(a, numbers), &mut xs);
-    change_lists(
-        is_added,
-        is_linked,
-        a,
-        line,
-        numbers,
-        slice::part16_mut(&mut fs, f),
-        slice::part16_mut(&mut xs, x),
-        text,
-        at,
-    )
+    let mut firsts = width::halves_room();
+    let mut nexts = width::halves_room();
+    let fs = width::to16(first(a, numbers), &mut firsts);
+    let xs = width::to16(next(a, numbers), &mut nexts);
+    change_lists(is_added, is_linked, a, line, numbers, fs, xs, text, at)
 }

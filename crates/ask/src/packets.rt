@@ -2,7 +2,7 @@
 use crate::args::Args;
 use crate::told;
 use crate::told::Told;
-use network::{Direction, Packet, ReadPacket};
+use network::{Direction, Packet};
 use wire::Cursor;
 
 // The direction that the question names, by its first word.
@@ -48,7 +48,7 @@ fn body(x: Packet) -> Told {
 
 pub(crate) fn packet(a: Args, src: &[u8]) -> Told {
     match network::read_packet(src, Cursor { at: a.numbers[0] }) {
-        ReadPacket::Got(x, next) => body(x).number(next.at as u64),
-        ReadPacket::Refused(f) => told::refused(f),
+        Ok((x, next)) => body(x).number(next.at as u64),
+        Err(f) => told::refused(f),
     }
 }

@@ -1,11 +1,9 @@
 // The text of the answers, which goes to standard output, and the place after what stands in it. Where the text is full it is written out and
 // begun again, so every function here takes the place and answers the next. Where it could not be written, the place is one behind
 // the text's room from then on, and nothing more is put or written.
-ghost use Rattle.std.specs.Prelude.{◌<◌, length};
-
 use crate::slice;
 use std::io::{Stderr, Stdout};
-use stream::Wrote;
+use stream::Stopped;
 
 const FILLING: u8 = 0xa5;
 
@@ -33,19 +31,16 @@ pub(crate) fn empty(rt: &HostRuntime) -> Answers {
 
 // The one function that writes: whether all before the place was written. What failed is told.
 fn write(text: &mut Answers, at: usize) -> bool {
-    match stream::write_all(
+    let written = stream::write_all(
         &mut text.to,
-        slice::part(&text.text, 0, at),
+        slice::front(&text.text, at),
         b"ask: writing standard output",
         &text.told,
-    ) {
-        Wrote::All => true,
-        Wrote::Failed => false,
-        Wrote::Gone => {
-            text.is_gone = true;
-            false
-        }
+    );
+    if written == Err(Stopped::Gone) {
+        text.is_gone = true;
     }
+    written.is_ok()
 }
 
 // Whether the reader of the answers has gone away.
@@ -71,10 +66,8 @@ pub(crate) fn put(text: &mut Answers, at: usize, b: u8) -> usize {
 
 pub(crate) fn put_all(text: &mut Answers, at: usize, s: &[u8]) -> usize {
     let mut o = at;
-    let mut i: usize = 0;
-    while i < s.len() {
-        o = put(text, o, s[i]);
-        i += 1;
+    for b in s {
+        o = put(text, o, *b);
     }
     o
 }
@@ -85,31 +78,21 @@ pub(crate) fn decimal(text: &mut Answers, at: usize, n: u64) -> usize {
     put_all(text, at, &digits[..k])
 }
 
-fn glyph(d: u8) -> u8 {
-    if d < 10 {
-        return 48 + d;
-    }
-    if d < 16 {
-        return 87 + d;
-    }
-    b'?'
-}
+const DIGITS: [u8; 16] = *b"0123456789abcdef";
 
 pub(crate) fn hex(text: &mut Answers, at: usize, b: u8) -> usize {
-    let o = put(text, at, glyph(b / 16));
-    put(text, o, glyph(b % 16))
+    let o = put(text, at, DIGITS[usize::from(b / 16)]);
+    put(text, o, DIGITS[usize::from(b % 16)])
 }
 
 // Two digits a byte, `-` for none.
 pub(crate) fn bytes(text: &mut Answers, at: usize, s: &[u8]) -> usize {
-    if s.len() == 0 {
+    if s.is_empty() {
         return put(text, at, b'-');
     }
     let mut o = at;
-    let mut i: usize = 0;
-    while i < s.len() {
-        o = hex(text, o, s[i]);
-        i += 1;
+    for b in s {
+        o = hex(text, o, *b);
     }
     o
 }
@@ -120,22 +103,6 @@ pub(crate) fn between(text: &mut Answers, at: usize, i: usize, b: u8) -> usize {
         return at;
     }
     put(text, at, b)
-}
-
-// Where the numbers end that are equal to the one at a place.
-fn run_end(list: &[u64], from: usize) -> usize
-    requires { from < length list.now }
-    ensures { from < result }
-{
-    let first = list[from];
-    let mut i = from + 1;
-    while i < list.len() {
-        if list[i] != first {
-            return i;
-        }
-        i += 1;
-    }
-    i
 }
 
 // A number and, where it stands more than once, how often.
@@ -149,23 +116,26 @@ fn run(text: &mut Answers, at: usize, n: u64, times: usize) -> usize {
 }
 
 // Joined by commas, equal neighbours as one with their count, `-` for none.
-pub(crate) fn runs(text: &mut Answers, at: usize, list: &[u64]) -> usize {
-    if list.len() == 0 {
+fn runs<T: Copy + PartialEq + Into<u64>>(text: &mut Answers, at: usize, list: &[T]) -> usize {
+    if list.is_empty() {
         return put(text, at, b'-');
     }
     let mut o = at;
-    let mut i: usize = 0;
-    while i < list.len() {
-        let end = run_end(list, i);
-        o = between(text, o, i, b',');
-        o = run(text, o, list[i], end - i);
-        i = end;
+    for (i, equals) in list.chunk_by(|a, b| *a == *b).enumerate() {
+        if let Some(n) = equals.first() {
+            o = between(text, o, i, b',');
+            o = run(text, o, (*n).into(), equals.len());
+        }
     }
     o
 }
 
 // A space and the list.
-pub(crate) fn put_list(text: &mut Answers, at: usize, list: &[u64]) -> usize {
+pub(crate) fn put_list<T: Copy + PartialEq + Into<u64>>(
+    text: &mut Answers,
+    at: usize,
+    list: &[T],
+) -> usize {
     let o = put(text, at, b' ');
     runs(text, o, list)
 }
@@ -182,46 +152,18 @@ pub(crate) fn unknown(text: &mut Answers, at: usize) -> usize {
     put(text, at, b'?')
 }
 
-pub(crate) fn wide8(x: u8) -> u64 {
-    x as u64
-}
-
-pub(crate) fn wide16(x: u16) -> u64 {
-    x as u64
-}
-
-pub(crate) fn wide32(x: u32) -> u64 {
-    x as u64
-}
-
 // The output for a writer, of so many bytes, filled.
 pub(crate) fn page(out: &mut [u8], size: usize) -> &mut [u8] {
-    let p = slice::part_mut(out, 0, size);
-    fill(p);
+    let p = slice::front_mut(out, size);
+    p.fill(FILLING);
     p
-}
-
-fn fill(out: &mut [u8]) {
-    let mut i: usize = 0;
-    while i < out.len() {
-        out[i] = FILLING;
-        i += 1;
-    }
 }
 
 // The same of numbers, so many.
 pub(crate) fn report(list: &mut [u64], size: usize) -> &mut [u64] {
-    let p = slice::part64_mut(list, size);
-    fill64(p);
+    let p = slice::front_mut(list, size);
+    p.fill(FILLING_64);
     p
-}
-
-fn fill64(list: &mut [u64]) {
-    let mut i: usize = 0;
-    while i < list.len() {
-        list[i] = FILLING_64;
-        i += 1;
-    }
 }
 
 // A space and the bytes.

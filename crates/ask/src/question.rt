@@ -1,109 +1,96 @@
-// The questions, each a row of one table: its name; two letters, which are its group's and in the group its arm's; its words, a letter
-// each (args.rt). A row may stand anywhere.
-use crate::args::Args;
-use crate::{args, slice, table};
+// The questions, each a row of one table: its group, its name, and its words, a letter each (args.rt). A row may stand anywhere.
 
-// The groups: those that only read, those that write into a room, and `l`, those whose answers have no bound.
-pub(crate) const READS: u8 = b'r';
+// Those that only read, those that write into a room, and those whose answers have no bound.
+#[derive(Clone, Copy)]
+pub(crate) enum Group {
+    Reads,
+    Writes,
+    Long,
+}
 
-pub(crate) const WRITES: u8 = b'w';
-
-const TABLE: [u8; 1176] = *b"\
-    response-name rR 2;\
-    command-name rC 2;\
-    value rv 28b;\
-    end re 8b;\
-    unit ru 88b;\
-    item ri 288b;\
-    units lu 8bm;\
-    numbers lN 288bm;\
-    utf8 wu 8br;\
-    write-value wv 2wr;\
-    write-string ws hr;\
-    write-array wa 2br;\
-    tidy-value wV 2br;\
-    device rd b;\
-    object ro b;\
-    storage rs b;\
-    property rp lb;\
-    tidy-device wD br;\
-    tidy-object wO br;\
-    tidy-storage wS br;\
-    tidy-property wP lbr;\
-    nth rn l8b;\
-    list ll lb;\
-    step rt b2821;\
-    newer ln lbb;\
-    header rh b;\
-    container rc b;\
-    write-container wc 224br;\
-    to-network wN dbr;\
-    from-network wF br;\
-    packet rP 8b;\
-    command wm 42nr;\
-    command-data wd 42nbr;\
-    panel wn l4b2br;\
-    call wC w4444r;\
-    answer ra 4b;\
-    response rA 4b;\
-    needed rm 4b;\
-    handles rH b;\
-    storage-ids rI b;\
-    object-count rN b;\
-    storage-info rS b;\
-    device-info rD b;\
-    object-info rO b;\
-    walk lw nhno8b;\
-    path wp nhno8b8r;\
-    paths lp nhno8br;\
-    delete ld nhno8b8;\
-    collect lC nhno8b;\
-    add la nhno8b84b;\
-    folders lv nhno8b;\
-    folder-paths lV nhno8br;\
-    link lk nhno8b;\
-    linked-walk lK nhno8bhh;\
-    linked-paths lP nhno8bhhr;\
-    linked-delete lD nhno8bhh8;\
-    linked-collect lG nhno8bhh;\
-    linked-add lA nhno8bhh84b;\
-    settings ls eb;\
-    settings-find lf eb42h;\
-    settings-store wk ebbr;\
-    settings-write wW 422bkhr;\
-    settings-remove wR eb42khr;\
-    record rr b;\
-    write-record wr 2br;\
-    recording lR b;\
-    copy lc br;\
-    mend lm brm;\
-    listing lL b";
+use Group::{Long, Reads, Writes};
 
 #[derive(Clone, Copy)]
 pub(crate) struct Question {
-    pub group: u8,
-    pub arm: u8,
-    pub start: usize,
-    pub end: usize,
-    pub ok: bool,
+    pub group: Group,
+    pub name: &'static str,
+    // a letter for each of its words
+    pub words: &'static [u8],
 }
 
-pub(crate) fn named(w: &[u8]) -> Question {
-    let rows = TABLE;
-    let row = table::find(&rows, w);
-    let said = slice::part(&rows, row.start, row.end);
-    Question {
-        group: slice::byte(said, 0),
-        arm: slice::byte(said, 1),
-        start: row.start,
-        end: row.end,
-        ok: row.ok,
-    }
-}
+const QUESTIONS: [(Group, &str, &[u8]); 69] = [
+    (Reads, "response-name", b"2"),
+    (Reads, "command-name", b"2"),
+    (Reads, "value", b"28b"),
+    (Reads, "end", b"8b"),
+    (Reads, "unit", b"88b"),
+    (Reads, "item", b"288b"),
+    (Long, "units", b"8bm"),
+    (Long, "numbers", b"288bm"),
+    (Writes, "utf8", b"8br"),
+    (Writes, "write-value", b"2wr"),
+    (Writes, "write-string", b"hr"),
+    (Writes, "write-array", b"2br"),
+    (Writes, "tidy-value", b"2br"),
+    (Reads, "device", b"b"),
+    (Reads, "object", b"b"),
+    (Reads, "storage", b"b"),
+    (Reads, "property", b"lb"),
+    (Writes, "tidy-device", b"br"),
+    (Writes, "tidy-object", b"br"),
+    (Writes, "tidy-storage", b"br"),
+    (Writes, "tidy-property", b"lbr"),
+    (Reads, "nth", b"l8b"),
+    (Long, "list", b"lb"),
+    (Reads, "step", b"b2821"),
+    (Long, "newer", b"lbb"),
+    (Reads, "header", b"b"),
+    (Reads, "container", b"b"),
+    (Writes, "write-container", b"224br"),
+    (Writes, "to-network", b"dbr"),
+    (Writes, "from-network", b"br"),
+    (Reads, "packet", b"8b"),
+    (Writes, "command", b"42nr"),
+    (Writes, "command-data", b"42nbr"),
+    (Writes, "panel", b"l4b2br"),
+    (Writes, "call", b"w4444r"),
+    (Reads, "answer", b"4b"),
+    (Reads, "response", b"4b"),
+    (Reads, "needed", b"4b"),
+    (Reads, "handles", b"b"),
+    (Reads, "storage-ids", b"b"),
+    (Reads, "object-count", b"b"),
+    (Reads, "storage-info", b"b"),
+    (Reads, "device-info", b"b"),
+    (Reads, "object-info", b"b"),
+    (Long, "walk", b"nhno8b"),
+    (Writes, "path", b"nhno8b8r"),
+    (Long, "paths", b"nhno8br"),
+    (Long, "delete", b"nhno8b8"),
+    (Long, "collect", b"nhno8b"),
+    (Long, "add", b"nhno8b84b"),
+    (Long, "folders", b"nhno8b"),
+    (Long, "folder-paths", b"nhno8br"),
+    (Long, "link", b"nhno8b"),
+    (Long, "linked-walk", b"nhno8bhh"),
+    (Long, "linked-paths", b"nhno8bhhr"),
+    (Long, "linked-delete", b"nhno8bhh8"),
+    (Long, "linked-collect", b"nhno8bhh"),
+    (Long, "linked-add", b"nhno8bhh84b"),
+    (Long, "settings", b"eb"),
+    (Long, "settings-find", b"eb42h"),
+    (Writes, "settings-store", b"ebbr"),
+    (Writes, "settings-write", b"422bkhr"),
+    (Writes, "settings-remove", b"eb42khr"),
+    (Reads, "record", b"b"),
+    (Writes, "write-record", b"2br"),
+    (Long, "recording", b"b"),
+    (Long, "copy", b"br"),
+    (Long, "mend", b"brm"),
+    (Long, "listing", b"b"),
+];
 
-// The question's words, which stand in the line from a place on.
-pub(crate) fn read(q: Question, line: &mut [u8], at: usize, numbers: &mut [u32]) -> Args {
-    let rows = TABLE;
-    let said = slice::part(&rows, q.start, q.end);
-    args::read(slice::part(said, 3, said.len()), line, at, numbers)
+pub(crate) fn named(name: &str) -> Option<Question> {
+    let (group, name, words) = QUESTIONS.iter().find(|row| row.1 == name).copied()?;
+    Some(Question { group, name, words })
 }

@@ -2,7 +2,7 @@
 use crate::print::Answers;
 use crate::told::Told;
 use crate::{print, show, told};
-use recording::{ReadRecord, ReadRecording, Record};
+use recording::Record;
 use wire::Cursor;
 
 // The first word is empty, so that a space stands before the others.
@@ -15,27 +15,25 @@ fn record(x: Record) -> Told {
 fn print_records(src: &[u8], count: usize, text: &mut Answers, to: usize) -> usize {
     let mut at: usize = 0;
     let mut o = to;
-    let mut n: usize = 0;
-    while n < count {
+    for _ in 0..count {
         match recording::read_record_at(src, Cursor { at }) {
-            ReadRecord::Got(x, next) => {
+            Ok((x, next)) => {
                 o = show::tell(text, o, src, record(x));
                 at = next.at;
             }
             // never: the recording was read whole
-            ReadRecord::Refused(_) => return print::unknown(text, o),
+            Err(_) => return print::unknown(text, o),
         }
-        n += 1;
     }
     o
 }
 
 pub(crate) fn answer(src: &[u8], text: &mut Answers, at: usize) -> usize {
     match recording::read_recording(src) {
-        ReadRecording::Got(count, _) => {
+        Ok((count, _)) => {
             let o = show::tell(text, at, src, told::ok().number(count as u64));
             print_records(src, count, text, o)
         }
-        ReadRecording::Refused(f) => show::tell(text, at, src, told::refused(f)),
+        Err(f) => show::tell(text, at, src, told::refused(f)),
     }
 }

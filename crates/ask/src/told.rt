@@ -1,72 +1,59 @@
-// An answer by value: pieces that print with a space between two. What a piece's numbers mean is its kind's: here a word, a number, a
-// pair; the kinds of a program's own are printed by it. An answer of more pieces than there is room for is none, and prints as one.
-use crate::print::Answers;
-use crate::{print, slice};
-use layout::{Refusal, Written};
+// An answer by value: pieces that print with a space between two. An answer of more pieces than there is room for is none, and prints as one.
+use crate::slice;
+use layout::Refusal;
 
 #[derive(Clone, Copy)]
-pub(crate) struct Piece {
-    pub kind: u8,
-    pub code: u16,
-    pub a: u64,
-    pub b: u64,
-    pub c: u64,
-    pub letters: [u8; 12],
+pub(crate) enum Piece {
+    Word(&'static [u8]),
+    Number(u64),
+    Int(i64),
+    Pair {
+        high: u64,
+        low: u64,
+    },
+    // these stand in the question's bytes: a string's units,
+    Text {
+        start: usize,
+        count: usize,
+    },
+    // an array's items, by their type,
+    Items {
+        code: u16,
+        start: usize,
+        count: usize,
+    },
+    // the items of an AUINT32, as a list of numbers,
+    List {
+        start: usize,
+        count: usize,
+    },
+    // and so many values of a type, which fill a part
+    Values {
+        code: u16,
+        start: usize,
+        len: usize,
+        count: usize,
+    },
+    // a name, by its place in the name bytes
+    Name {
+        start: usize,
+        len: usize,
+    },
 }
+
+// The pieces of a row at most.
+const MOST_PIECES: usize = 24;
 
 #[derive(Clone, Copy)]
 pub(crate) struct Told {
-    pub row: [Piece; 24],
-    pub n: usize,
+    row: [Piece; MOST_PIECES],
+    n: usize,
     pub ok: bool,
-}
-
-// As many as a row has.
-pub(crate) const MOST_PIECES: usize = 24;
-
-// As many as a word has.
-const MOST_LETTERS: usize = 12;
-
-const WORD: u8 = 0;
-
-pub(crate) const NUMBER: u8 = 1;
-
-pub(crate) const NEGATIVE: u8 = 2;
-
-pub(crate) const PAIR: u8 = 3;
-
-pub(crate) fn typed(kind: u8, code: u16, a: u64, b: u64, c: u64) -> Piece {
-    Piece {
-        kind,
-        code,
-        a,
-        b,
-        c,
-        letters: [b'?'; 12],
-    }
-}
-
-pub(crate) fn plain(kind: u8, a: u64, b: u64) -> Piece {
-    typed(kind, 0, a, b, 0)
-}
-
-// Of a word that has no room there are only question marks.
-pub(crate) fn word(w: &[u8]) -> Piece {
-    let mut letters = [b'?'; 12];
-    layout::copy(w, 0, w.len(), &mut letters, 0);
-    Piece {
-        kind: WORD,
-        code: 0,
-        a: layout::least(w.len(), MOST_LETTERS) as u64,
-        b: 0,
-        c: 0,
-        letters,
-    }
 }
 
 fn empty(ok: bool) -> Told {
     Told {
-        row: [plain(WORD, 0, 0); 24],
+        row: [Piece::Number(0); MOST_PIECES],
         n: 0,
         ok,
     }
@@ -78,7 +65,7 @@ pub(crate) fn unknown() -> Told {
 }
 
 // An answer that begins with a word.
-pub(crate) fn say(w: &[u8]) -> Told {
+pub(crate) fn say(w: &'static [u8]) -> Told {
     empty(true).word(w)
 }
 
@@ -95,10 +82,10 @@ pub(crate) fn refused(f: Refusal) -> Told {
     t
 }
 
-pub(crate) fn written(w: Written) -> Told {
+pub(crate) fn written(w: Result<usize, Refusal>) -> Told {
     match w {
-        Written::Done(n) => ok().number(n as u64),
-        Written::Refused(f) => refused(f),
+        Ok(n) => ok().number(n as u64),
+        Err(f) => refused(f),
     }
 }
 
@@ -106,17 +93,18 @@ impl Told {
     pub(crate) fn and(self, p: Piece) -> Told {
         let mut t = self;
         let n = t.n;
-        if n < MOST_PIECES {
-            t.row[n] = p;
-            t.n = n + 1;
-        } else {
-            t.ok = false;
+        match t.row.get_mut(n) {
+            Some(place) => {
+                *place = p;
+                t.n = n + 1;
+            }
+            None => t.ok = false,
         }
         t
     }
 
     pub(crate) fn number(self, n: u64) -> Told {
-        self.and(plain(NUMBER, n, 0))
+        self.and(Piece::Number(n))
     }
 
     // Where a part starts, and how much it is.
@@ -124,25 +112,11 @@ impl Told {
         self.number(start as u64).number(count as u64)
     }
 
-    pub(crate) fn word(self, w: &[u8]) -> Told {
-        self.and(word(w))
+    pub(crate) fn word(self, w: &'static [u8]) -> Told {
+        self.and(Piece::Word(w))
     }
-}
 
-// A piece of one of the kinds above.
-pub(crate) fn put_piece(p: Piece, text: &mut Answers, at: usize) -> usize {
-    if p.kind == WORD {
-        let letters = p.letters;
-        return print::put_all(text, at, slice::counted(&letters, 0, p.a as usize));
+    pub(crate) fn pieces(&self) -> &[Piece] {
+        slice::front(&self.row, self.n)
     }
-    if p.kind == NEGATIVE {
-        let o = print::put(text, at, b'-');
-        return print::decimal(text, o, p.a);
-    }
-    let o = print::decimal(text, at, p.a);
-    if p.kind == PAIR {
-        let a = print::put(text, o, b':');
-        return print::decimal(text, a, p.b);
-    }
-    o
 }

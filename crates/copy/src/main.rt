@@ -8,35 +8,25 @@ ghost use Rattle.std.specs.Prelude.{◌≤◌, length};
 
 use copying::Stand;
 use std::process::ExitCode;
-use stream::{Came, Wrote};
+use stream::Stopped;
 use turns::Next;
 
-#[derive(Drop)]
-enum Going {
-    On(Stand),
-    Stop,
-    Gone,
-}
-
 // Reads what comes after the bytes that are held.
-fn read_on(rt: &HostRuntime, s: Stand, window: &mut [u8]) -> Going
+fn read_on(rt: &HostRuntime, s: Stand, window: &mut [u8]) -> Result<Stand, Stopped>
     requires { s.hold.held ≤ length window.old }
 {
-    let hold = s.hold;
-    let held = hold.held;
-    match stream::read_some(
+    let held = s.hold.held;
+    let n = stream::read_some(
         &mut rt.stdin(),
         &mut window[held..],
         b"copy: reading standard input",
         &rt.stderr(),
-    ) {
-        Came::Bytes(n) => Going::On(copying::join(s, n)),
-        Came::Failed => Going::Stop,
-    }
+    )?;
+    Ok(copying::join(s, n))
 }
 
 // Writes a turn's bytes.
-fn show(rt: &HostRuntime, out: &[u8], n: usize) -> Wrote
+fn show(rt: &HostRuntime, out: &[u8], n: usize) -> Result<(), Stopped>
     requires { n ≤ length out.now }
 {
     stream::write_all(
@@ -48,7 +38,7 @@ fn show(rt: &HostRuntime, out: &[u8], n: usize) -> Wrote
 }
 
 // Tells a turn's line, if there is one, after its bytes are written.
-fn tell(rt: &HostRuntime, report: &[u8], n: usize) -> Wrote
+fn tell(rt: &HostRuntime, report: &[u8], n: usize) -> Result<(), Stopped>
     requires { n ≤ length report.now }
 {
     stream::write_all(
@@ -65,24 +55,16 @@ fn one_turn(
     window: &mut [u8; 65536],
     out: &mut [u8; 65536],
     report: &mut [u8; 128],
-) -> Going {
+) -> Result<Option<Stand>, Stopped> {
     let turn = copying::take_turn(s, window, out, report);
-    match show(rt, out, turn.written) {
-        Wrote::All => {}
-        Wrote::Failed => return Going::Stop,
-        Wrote::Gone => return Going::Gone,
-    }
-    match tell(rt, report, turn.reported) {
-        Wrote::All => {}
-        Wrote::Failed => return Going::Stop,
-        Wrote::Gone => return Going::Gone,
-    }
+    show(rt, out, turn.written)?;
+    tell(rt, report, turn.reported)?;
     let next = turn.next;
     let stand = turn.stand;
     match next {
-        Next::Again => Going::On(stand),
-        Next::Read => read_on(rt, stand, window),
-        Next::Stop => Going::Stop,
+        Next::Again => Ok(Some(stand)),
+        Next::Read => read_on(rt, stand, window).map(Some),
+        Next::Stop => Ok(None),
     }
 }
 
@@ -90,22 +72,7 @@ fn main(rt: HostRuntime) -> ExitCode {
     let mut window = io::large_buffer();
     let mut out = io::large_buffer();
     let mut report = [0u8; 128];
-    let mut stand = copying::begin();
-    // A bound that no run reaches: a loop must have one.
-    let mut turns = u64::MAX;
-    while turns > 0 {
-        match one_turn(&rt, stand, &mut window, &mut out, &mut report) {
-            Going::On(s) => {
-                stand = s;
-            }
-            Going::Stop => {
-                return ExitCode::SUCCESS;
-            }
-            Going::Gone => {
-                return ExitCode::from(stream::GONE);
-            }
-        }
-        turns -= 1;
-    }
-    ExitCode::SUCCESS
+    stream::run(copying::begin(), |stand| {
+        one_turn(&rt, stand, &mut window, &mut out, &mut report)
+    })
 }

@@ -4,7 +4,6 @@
 
 ghost use Rattle.std.specs.Prelude.{◌≡◌, nat_lt};
 ghost use Rattle.layout.specs.Answer.{pick};
-ghost use Rattle.layout.specs.Answer.{pick};
 ghost use Rattle.turns.specs.Held.{holds, rest};
 ghost use Rattle.turns.specs.Turn.{turn_of};
 ghost use Rattle.recording.specs.Copied.{CopiesFront};
@@ -13,7 +12,7 @@ ghost use Rattle.copying.specs.Turn.{begun, joins, outcome_of, passed, turned, s
 mod report;
 
 use layout::Refusal;
-use recording::{Copied, Front, Left, ReadFront};
+use recording::{Front, Left, ReadFront};
 use turns::{Hold, Next};
 
 // How far the copy has come: the place of the next record, and what was left out before it, records and their bytes.
@@ -111,12 +110,10 @@ fn look(s: &[u8], last: bool) -> Outcome
 fn past(t: Tally, n: usize, left: Left) -> Tally
     ensures { result ≡ passed t n left }
 {
-    let records = std::num::wrapping_add_u64(t.records, left.records as u64);
-    let bytes = std::num::wrapping_add_u64(t.bytes, left.bytes as u64);
     Tally {
-        place: std::num::wrapping_add_u64(t.place, n as u64),
-        records,
-        bytes,
+        place: t.place.wrapping_add(n as u64),
+        records: t.records.wrapping_add(left.records as u64),
+        bytes: t.bytes.wrapping_add(left.bytes as u64),
     }
 }
 
@@ -163,8 +160,7 @@ pub fn take_turn(
     let hold = s.hold;
     let front = copy_held(window, hold, out);
     let used = front.used;
-    let copied = front.copied;
-    let Copied::Done(n, left) = copied else {
+    let Ok((n, left)) = front.copied else {
         return answer(0, 0, Next::Stop, s);
     };
     let tally = past(s.tally, used, left);

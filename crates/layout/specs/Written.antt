@@ -1,11 +1,12 @@
 -- What a writer has to say, and the one rule of every writer.
 -- Assumes nothing.
+use Rattle.std.specs.Prelude.{Ok, Err}
+use Rattle.std.specs.declared.result.Result.{Result}
+use Rattle.layout.specs.declared.Refusal.{Refusal}
 use Rattle.std.specs.Prelude.{◌≡◌, Bool, true, false, List, [], ◌++◌, ℕ, ◌+◌, ◌-◌, leb, length, drop}
 use Rattle.std.proofs.lemmas.List.Edits.{sets}
 use Rattle.layout.specs.Answer.{Told, Answer, got, refused, Reader, bare, pick, means}
 use Rattle.layout.specs.Codec.{Codec}
-use Rattle.layout.specs.declared.Written.{Written}
-use Rattle.layout.specs.declared.Written.TheVariants as written
 use Rattle.layout.specs.Refusals.{ROOM}
 
 -- a function of the writer's inputs alone: the bytes that are due, or the refusal
@@ -47,11 +48,6 @@ left_of (says bs) out = pick (leb (length bs) (length out)) (bs ++ drop (length 
 pub record Wrote (s : Said) (old : List ℕ) (answer : Answer (Unit {0})) (new : List ℕ) : Type 0 where
   pub answers : answer ≡ answer_of s old
   pub leaves : new ≡ left_of s old
-
--- every writer's answer, in this paper's numbers
-abbrev pub says_written : Written → Answer (Unit {0})
-says_written (written.Done n) = got tt n
-says_written (written.Refused t) = refused t
 
 -- ── inside a writer ──
 

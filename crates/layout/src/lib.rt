@@ -45,20 +45,6 @@ pub struct Refusal {
     pub at: usize,
 }
 
-// How many bytes were written.
-#[derive(Drop)]
-pub enum Written {
-    Done(usize),
-    Refused(Refusal),
-}
-
-// How many there are, of what is whole.
-#[derive(Drop)]
-pub enum Checked {
-    Whole(usize),
-    Refused(Refusal),
-}
-
 // 1 END: the field that starts at the place is not whole.
 pub fn end_at(place: usize) -> Refusal
     ensures { result ≡ end_at place }

@@ -8,29 +8,26 @@ ghost use Rattle.layout.specs.Written.{Put, roomed};
 pub fn left(size: usize, at: usize) -> usize
     ensures { result ≡ size - at }
 {
-    if at < size { size - at } else { 0 }
+    size.saturating_sub(at)
 }
 
 pub fn least(x: usize, y: usize) -> usize
     ensures { result ≡ pick (leb x y) x y }
 {
-    if x <= y { x } else { y }
+    x.min(y)
 }
 
 fn store_all(out: &mut [u8], at: usize, n: usize, x: u64) -> usize
     requires { n ≤ length out.old - at }
     ensures { Put out.old at (bytes n x) out.new result }
 {
-    let mut o = at;
-    let mut left = n;
     let mut rest = x;
-    while 0 < left {
-        out[o] = (rest % 256) as u8;
-        rest = rest / 256;
-        o += 1;
-        left -= 1;
+    // From 0, so that the compiler sees how many there are.
+    for i in 0..n {
+        out[at + i] = (rest % 256) as u8;
+        rest /= 256;
     }
-    o
+    at + n
 }
 
 // The n low bytes of x at a place, the lowest first, and the place after them.
@@ -43,29 +40,15 @@ pub fn store(out: &mut [u8], at: usize, n: usize, x: u64) -> usize
     store_all(out, at, n, x)
 }
 
-fn copy_all(src: &[u8], a: usize, n: usize, out: &mut [u8], at: usize) -> usize
-    requires { (n ≤ length src.now - a) × (n ≤ length out.old - at) }
-    ensures { Put out.old at (take n (drop a src.now)) out.new result }
-{
-    let mut i = a;
-    let mut o = at;
-    let mut left = n;
-    while 0 < left {
-        out[o] = src[i];
-        o += 1;
-        i += 1;
-        left -= 1;
-    }
-    o
-}
-
 // The n bytes of src from a on, at a place, and the place after them.
 pub fn copy(src: &[u8], a: usize, n: usize, out: &mut [u8], at: usize) -> usize
     ensures { Put out.old at (roomed out.old at (take n (drop a src.now))) out.new result }
 {
-    let m = least(n, left(src.len(), a));
-    if left(out.len(), at) < m {
+    let m = n.min(left(src.len(), a));
+    // None: a place may lie past the end.
+    if m == 0 || left(out.len(), at) < m {
         return at;
     }
-    copy_all(src, a, m, out, at)
+    out[at..at + m].copy_from_slice(&src[a..a + m]);
+    at + m
 }

@@ -1,8 +1,9 @@
 // The listing of a recording, window by window. What is printed stands in specs/.
 #![tactic(auto)]
 
+ghost use Rattle.layout.specs.Answer.{says_count};
 ghost use Rattle.std.specs.Prelude.{◌≡◌, length};
-ghost use Rattle.layout.specs.Written.{Wrote, says, says_written};
+ghost use Rattle.layout.specs.Written.{Wrote, says};
 ghost use Rattle.names.specs.Names.{name_bytes};
 ghost use Rattle.listing.specs.Lines.{heading, ending};
 ghost use Rattle.listing.specs.Window.{answered, window_of, Lists};
@@ -11,7 +12,7 @@ mod decimal;
 mod line;
 mod turn;
 
-use layout::Written;
+use layout::Refusal;
 use recording::ReadFront;
 pub use turn::{Stage, Stand, Turn, join, start, take_turn};
 
@@ -35,13 +36,13 @@ pub struct Listed {
 const LINE_ROOM: usize = 128;
 
 // The first line.
-pub fn write_heading(out: &mut [u8]) -> Written
-    ensures { Wrote (says heading) out.old (says_written result) out.new }
+pub fn write_heading(out: &mut [u8]) -> Result<usize, Refusal>
+    ensures { Wrote (says heading) out.old (says_count result) out.new }
 {
     if out.len() < 30 {
-        return Written::Refused(layout::plain(layout::ROOM));
+        return Err(layout::plain(layout::ROOM));
     }
-    Written::Done(line::put_heading(out))
+    Ok(line::put_heading(out))
 }
 
 fn answer(used: usize, written: usize, place: u64, records: u64, stopped: bool) -> Listed
@@ -63,6 +64,7 @@ fn list_from(s: &[u8], last: bool, start: u64, count: u64, names: &[u8], out: &m
     let mut written = 0;
     let mut place = start;
     let mut records = count;
+    // No range: each record says itself where the next one starts.
     while out.len() - written >= LINE_ROOM {
         let part = &s[used..];
         match recording::read_front(part, last) {
@@ -100,13 +102,13 @@ pub fn list_window(s: &[u8], last: bool, from: Tally, out: &mut [u8]) -> Listed
 }
 
 // The last line: the whole records and their bytes.
-pub fn write_ending(tally: Tally, out: &mut [u8]) -> Written
-    ensures { Wrote (says (ending tally.records tally.place)) out.old (says_written result) out.new }
+pub fn write_ending(tally: Tally, out: &mut [u8]) -> Result<usize, Refusal>
+    ensures { Wrote (says (ending tally.records tally.place)) out.old (says_count result) out.new }
 {
     let mut text = [0u8; 64];
     let n = line::put_ending(tally.records, tally.place, &mut text);
     if out.len() < n {
-        return Written::Refused(layout::plain(layout::ROOM));
+        return Err(layout::plain(layout::ROOM));
     }
-    Written::Done(layout::copy(&text[..n], 0, n, out, 0))
+    Ok(layout::copy(&text[..n], 0, n, out, 0))
 }

@@ -8,7 +8,7 @@ ghost use Rattle.listing.specs.Lines.{heading, hex_code, way_text, kind_text, na
 
 use crate::decimal;
 use names::Name;
-use recording::{Content, Record};
+use recording::Record;
 use wire::Container;
 
 // Bytes that have room at a place, and the place after them.
@@ -85,14 +85,15 @@ fn put_kind(kind: u16, out: &mut [u8], at: usize) -> usize
 }
 
 // Where the name stands of a code in a container of that kind.
-fn name_of(kind: u16, code: u16) -> Name
+#[tactic(auto, unfolding(crate::specs::Lines::name_for), using(names::proofs::laws::Spells::response_spells, names::proofs::laws::Spells::command_spells, names::proofs::laws::Spells::response_inside, names::proofs::laws::Spells::command_inside))]
+fn name_of(kind: u16, code: u16) -> Option<Name>
     ensures { (given bytes_at (says_name result) ≡ name_for kind code) × Inside (says_name result) }
 {
     if kind == 3 {
         return names::response_name(code);
     }
     if kind == 4 {
-        return Name::None;
+        return None;
     }
     names::command_name(code)
 }
@@ -102,8 +103,8 @@ fn put_code(kind: u16, code: u16, names: &[u8], out: &mut [u8], at: usize) -> us
     ensures { Put out.old at (code_text kind code) out.new result }
 {
     match name_of(kind, code) {
-        Name::At { start, len } => put_name(&names[start..start + len], out, at),
-        Name::None => put_hex(code, out, at),
+        Some(p) => put_name(&names[p.start..p.start + p.len], out, at),
+        None => put_hex(code, out, at),
     }
 }
 
@@ -129,12 +130,11 @@ fn put_container(
     requires { (names.now ≡ name_bytes) × (at + length (container_line place kind x) ≤ length out.old) }
     ensures { Put out.old at (container_line place kind x) out.new result }
 {
-    let payload = x.payload;
     let a = decimal::put_place(place, out, at);
     let b = put_way(kind, out, a);
     let c = put_kind(x.kind, out, b);
     let d = put_code(x.kind, x.code, names, out, c);
-    put_counts(x.number as u64, payload.count as u64, out, d)
+    put_counts(x.number as u64, x.payload.count as u64, out, d)
 }
 
 fn put_note(place: u64, count: u64, out: &mut [u8], at: usize) -> usize
@@ -151,11 +151,9 @@ pub(crate) fn put_record(place: u64, x: Record, names: &[u8], out: &mut [u8], at
     requires { (names.now ≡ name_bytes) × (at + length (record_line place (record_from x)) ≤ length out.old) }
     ensures { Put out.old at (record_line place (record_from x)) out.new result }
 {
-    let content = x.content;
-    let body = x.body;
-    match content {
-        Content::Note => put_note(place, body.count as u64, out, at),
-        Content::Holds(held) => put_container(place, x.kind, held, names, out, at),
+    match x.content {
+        None => put_note(place, x.body.count as u64, out, at),
+        Some(held) => put_container(place, x.kind, held, names, out, at),
     }
 }
 

@@ -8,15 +8,8 @@ ghost use Rattle.std.specs.Prelude.{◌≤◌, length};
 
 use mending::Stand;
 use std::process::ExitCode;
-use stream::{Came, Wrote};
+use stream::Stopped;
 use turns::Next;
-
-#[derive(Drop)]
-enum Going {
-    On(Stand),
-    Stop,
-    Gone,
-}
 
 // Room for the stretches of a turn.
 fn stretch_room() -> [u64; 1024] {
@@ -24,24 +17,21 @@ fn stretch_room() -> [u64; 1024] {
 }
 
 // Reads what comes after the bytes that are held.
-fn read_on(rt: &HostRuntime, s: Stand, window: &mut [u8]) -> Going
+fn read_on(rt: &HostRuntime, s: Stand, window: &mut [u8]) -> Result<Stand, Stopped>
     requires { s.hold.held ≤ length window.old }
 {
-    let hold = s.hold;
-    let held = hold.held;
-    match stream::read_some(
+    let held = s.hold.held;
+    let n = stream::read_some(
         &mut rt.stdin(),
         &mut window[held..],
         b"mend: reading standard input",
         &rt.stderr(),
-    ) {
-        Came::Bytes(n) => Going::On(mending::join(s, n)),
-        Came::Failed => Going::Stop,
-    }
+    )?;
+    Ok(mending::join(s, n))
 }
 
 // Writes a turn's bytes.
-fn show(rt: &HostRuntime, out: &[u8], n: usize) -> Wrote
+fn show(rt: &HostRuntime, out: &[u8], n: usize) -> Result<(), Stopped>
     requires { n ≤ length out.now }
 {
     stream::write_all(
@@ -53,7 +43,7 @@ fn show(rt: &HostRuntime, out: &[u8], n: usize) -> Wrote
 }
 
 // Tells a turn's lines, after its bytes are written.
-fn tell(rt: &HostRuntime, report: &[u8], n: usize) -> Wrote
+fn tell(rt: &HostRuntime, report: &[u8], n: usize) -> Result<(), Stopped>
     requires { n ≤ length report.now }
 {
     stream::write_all(
@@ -72,24 +62,16 @@ fn one_turn(
     starts: &mut [u64; 1024],
     lengths: &mut [u64; 1024],
     report: &mut [u8; 65536],
-) -> Going {
+) -> Result<Option<Stand>, Stopped> {
     let turn = mending::take_turn(s, window, out, starts, lengths, report);
-    match show(rt, out, turn.written) {
-        Wrote::All => {}
-        Wrote::Failed => return Going::Stop,
-        Wrote::Gone => return Going::Gone,
-    }
-    match tell(rt, report, turn.reported) {
-        Wrote::All => {}
-        Wrote::Failed => return Going::Stop,
-        Wrote::Gone => return Going::Gone,
-    }
+    show(rt, out, turn.written)?;
+    tell(rt, report, turn.reported)?;
     let next = turn.next;
     let stand = turn.stand;
     match next {
-        Next::Again => Going::On(stand),
-        Next::Read => read_on(rt, stand, window),
-        Next::Stop => Going::Stop,
+        Next::Again => Ok(Some(stand)),
+        Next::Read => read_on(rt, stand, window).map(Some),
+        Next::Stop => Ok(None),
     }
 }
 
@@ -99,11 +81,8 @@ fn main(rt: HostRuntime) -> ExitCode {
     let mut report = io::large_buffer();
     let mut starts = stretch_room();
     let mut lengths = stretch_room();
-    let mut stand = mending::begin();
-    // A bound that no run reaches: a loop must have one.
-    let mut turns = u64::MAX;
-    while turns > 0 {
-        match one_turn(
+    stream::run(mending::begin(), |stand| {
+        one_turn(
             &rt,
             stand,
             &mut window,
@@ -111,18 +90,6 @@ fn main(rt: HostRuntime) -> ExitCode {
             &mut starts,
             &mut lengths,
             &mut report,
-        ) {
-            Going::On(s) => {
-                stand = s;
-            }
-            Going::Stop => {
-                return ExitCode::SUCCESS;
-            }
-            Going::Gone => {
-                return ExitCode::from(stream::GONE);
-            }
-        }
-        turns -= 1;
-    }
-    ExitCode::SUCCESS
+        )
+    })
 }

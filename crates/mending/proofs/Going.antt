@@ -1,6 +1,6 @@
 -- The loop of a sweep: what is still to be written of the three outputs, and how the last stretch is told.
 -- Assumes nothing.
-use Rattle.std.proofs.Common.{◌≡◌, ℕ, ◌+◌, ◌-◌, ◌<◌, ◌≤◌, Bool, true, false, leb, List, [], length, take, drop, sym, refl, ap, ◌∙◌, subst, append-nil, add-zero, zero-add, arith, length-drop, length-take-le, leb-false, leb-true}
+use Rattle.std.proofs.Common.{◌≡◌, ℕ, ◌+◌, ◌-◌, ◌<◌, ◌≤◌, Bool, true, false, leb, List, [], length, take, drop, sym, refl, ap, ◌∙◌, subst, append-nil, add-zero, zero-add, arith, length-drop, length-take-le, leb-false, leb-true, min}
 use mathlib.Core.List.{map-append}
 use lib.ListN.{length-map}
 use Rattle.layout.specs.Answer.{pick}
@@ -21,6 +21,14 @@ use Rattle.mending.proofs.Sweeping.{sweep_drops, sweep_keeps}
 pub least_is : {m : ℕ} (x y : ℕ) → m ≡ pick (leb x y) x y → m ≡ least x y
 unfolding least
 least_is x y e = e
+
+pub least_min : (x y : ℕ) → min x y ≡ least x y
+unfolding least
+least_min x y = go (leb x y) refl
+  where
+    go : (b : Bool) → leb x y ≡ b → min x y ≡ pick b x y
+    go true f = omega (arith, leb-true x y f)
+    go false f = omega (arith, leb-false x y f)
 
 pub least_most : (x y : ℕ) → (least x y ≤ x) × (least x y ≤ y)
 unfolding least

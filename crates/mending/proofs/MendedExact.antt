@@ -2,6 +2,7 @@
 -- accepted, and has the kept records; so mending it again changes nothing. And each promise allows one answer.
 -- Each is shown piece by piece from the front.
 -- Assumes nothing.
+use Rattle.std.specs.Prelude.{Ok, Err}
 use Rattle.std.proofs.Common.{◌≡◌, ℕ, suc, ◌+◌, ◌-◌, ◌<◌, ◌≤◌, Bool, true, false, ltb, List, [], ◌∷◌, ◌++◌, map, length, take, drop, sym, refl, ap, ◌∙◌, subst, append-nil, arith, length-append, length-drop, take-append-drop, length-take-le, drop-drop, drop_at, ltb-false, ltb-true}
 use lib.ListN.{length-map}
 use lib.Seq.{drop-append-add}
@@ -17,8 +18,8 @@ use Rattle.recording.specs.Row.{row_from, row_of}
 use Rattle.recording.specs.Copied.{move}
 use Rattle.recording.proofs.laws.Rowed.{Stands}
 use Rattle.recording.proofs.laws.Fronted.{body_same, record_before, row_join, row_rest, row_not}
-use Rattle.mending.specs.declared.Mended as declared
-use Rattle.mending.specs.declared.Mended.TheVariants as mended
+use Rattle.std.specs.declared.result.Result.{Result}
+use Rattle.layout.specs.declared.Refusal.{Refusal}
 use Rattle.mending.specs.declared.window.Swept.{Swept}
 use Rattle.mending.specs.declared.turn.Turn.{Turn}
 use Rattle.mending.specs.Mended.{part, kept_of, mend_said, stretch, dropped_of, lengths_of, Mends, says_mended}
@@ -30,18 +31,18 @@ use Rattle.mending.proofs.Cutting.{text, told, parts, text_whole, told_whole, pa
 
 -- ── one answer ──
 
-abbrev mended_from : Answer ℕ → declared.Mended
-mended_from (got n m) = mended.Done m n
-mended_from (refused t) = mended.Refused t
+abbrev mended_from : Answer ℕ → Result (ℕ × ℕ) Refusal
+mended_from (got n m) = Ok (m, n)
+mended_from (refused t) = Err t
 
-mended_back : (r : declared.Mended) → mended_from (says_mended r) ≡ r
-mended_back (mended.Done n m) = refl
-mended_back (mended.Refused t) = refl
+mended_back : (r : Result (ℕ × ℕ) Refusal) → mended_from (says_mended r) ≡ r
+mended_back (Ok (n, m)) = refl
+mended_back (Err t) = refl
 
 tells_mended : Tells says_mended
 tells_mended = retracts mended_from mended_back
 
-pub one_mended : (s out starts lengths : List ℕ) (x y : declared.Mended) {o o' a a' b b' : List ℕ} → Mends s out starts lengths (says_mended x) o a b → Mends s out starts lengths (says_mended y) o' a' b' →
+pub one_mended : (s out starts lengths : List ℕ) (x y : Result (ℕ × ℕ) Refusal) {o o' a a' b b' : List ℕ} → Mends s out starts lengths (says_mended x) o a b → Mends s out starts lengths (says_mended y) o' a' b' →
     (x ≡ y) × (o ≡ o') × (a ≡ a') × (b ≡ b')
 one_mended s out starts lengths x y p q =
     (tells_mended x y (p.answers ∙ sym q.answers), p.bytes ∙ sym q.bytes, p.starts_so ∙ sym q.starts_so, p.lengths_so ∙ sym q.lengths_so)

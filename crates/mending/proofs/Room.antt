@@ -13,7 +13,8 @@ use Rattle.wire.specs.declared.Part.{Part}
 use Rattle.mending.specs.Laid.{total, Tiles, all_laid, next_kept, next_dropped}
 use Rattle.mending.specs.Mended.{kept_of, parts_of, mend_said, dropped_of, starts_of, lengths_of, least, has_room, mend_of, Mends, says_mended}
 use Rattle.mending.specs.Room.{TooShort, for_records, for_starts, for_lengths, stretches_in}
-use Rattle.mending.specs.declared.Mended as declared
+use Rattle.std.specs.declared.result.Result.{Result}
+use Rattle.layout.specs.declared.Refusal.{Refusal}
 use Rattle.mending.proofs.MendedExact.{pieces_tile}
 
 -- ── how much comes out ──
@@ -83,7 +84,7 @@ module _ (s out starts lengths : List ℕ) where
 
   -- ── of the function's own answer ──
 
-  module _ {o a b : List ℕ} (r : declared.Mended) (promised : Mends s out starts lengths (says_mended r) o a b) where
+  module _ {o a b : List ℕ} (r : Result (ℕ × ℕ) Refusal) (promised : Mends s out starts lengths (says_mended r) o a b) where
     judged : {c : Bool} → Rooms s out starts lengths c → says_mended r ≡ mend_of s c →
         ((says_mended r ≡ refused (bare ROOM)) ↔ TooShort s out starts lengths) × ((TooShort s out starts lengths → ⊥) → says_mended r ≡ got (length (dropped_of s)) (total (lengths_of (kept_of s)))) ×
         ((t : Told) → says_mended r ≡ refused t → t ≡ bare ROOM)

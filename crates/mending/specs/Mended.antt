@@ -1,6 +1,9 @@
 -- A damaged recording, mended: from the front, where an acceptable record stands it is kept, and where none does one byte is passed over and the next place is tried.
 -- The kept records come out in order, and the dropped bytes are told by stretches, adjoining ones joined.
 -- Assumes nothing.
+use Rattle.std.specs.Prelude.{Ok, Err}
+use Rattle.std.specs.declared.result.Result.{Result}
+use Rattle.layout.specs.declared.Refusal.{Refusal}
 use Rattle.std.specs.Prelude.{◌≡◌, ℕ, zero, suc, ◌+◌, ◌-◌, Bool, false, List, [], ◌∷◌, ◌++◌, map, length, drop, nat_le, nat_lt}
 use Rattle.layout.specs.Answer.{Answer, got, refused, bare, pick}
 use Rattle.layout.specs.Refusals.{ROOM}
@@ -9,8 +12,6 @@ use Rattle.wire.specs.declared.Part.{Part}
 use Rattle.turns.specs.Held.{fronted}
 use Rattle.recording.specs.Content.{Record}
 use Rattle.recording.specs.Record.{record_of}
-use Rattle.mending.specs.declared.Mended.{Mended}
-use Rattle.mending.specs.declared.Mended.TheVariants as mended
 
 -- ── the pieces of the bytes ──
 
@@ -100,6 +101,6 @@ pub record Mends (s out starts lengths : List ℕ) (answer : Answer ℕ) (out' s
 
 -- ── this paper's values for each case ──
 
-abbrev pub says_mended : Mended → Answer ℕ
-says_mended (mended.Done n stretches) = got stretches n
-says_mended (mended.Refused t) = refused t
+abbrev pub says_mended : (Result (ℕ × ℕ) Refusal) → Answer ℕ
+says_mended (Ok (n, stretches)) = got stretches n
+says_mended (Err t) = refused t

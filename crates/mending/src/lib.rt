@@ -14,13 +14,6 @@ use layout::Refusal;
 pub use turn::{Stand, Turn, begin, join, take_turn};
 pub use window::{Swept, Tally, mend_window, start};
 
-// How many bytes were written, and how many stretches; or why nothing was.
-#[derive(Drop)]
-pub enum Mended {
-    Done(usize, usize),
-    Refused(Refusal),
-}
-
 // How many bytes come out, and how many stretches are told.
 #[derive(Drop)]
 struct Need {
@@ -42,6 +35,7 @@ fn mend_need(s: &[u8]) -> Need
     let mut at = 0;
     let mut bytes = 0;
     let mut stretches = 0;
+    // No range: each stretch says itself where the next one starts.
     while at < s.len() {
         let gap = search::gap_end(s, at, true);
         stretches += stretches_in(at, gap);
@@ -53,16 +47,21 @@ fn mend_need(s: &[u8]) -> Need
 }
 
 // Mends the recording: the kept records at the front of `out`, the dropped stretches by start and length at the fronts of `starts` and `lengths`.
-pub fn mend(s: &[u8], out: &mut [u8], starts: &mut [u64], lengths: &mut [u64]) -> Mended
+pub fn mend(
+    s: &[u8],
+    out: &mut [u8],
+    starts: &mut [u64],
+    lengths: &mut [u64],
+) -> Result<(usize, usize), Refusal>
     ensures { Mends s.now out.old starts.old lengths.old (says_mended result) out.new starts.new lengths.new }
 {
     let need = mend_need(s);
     if out.len() < need.bytes {
-        return Mended::Refused(layout::plain(layout::ROOM));
+        return Err(layout::plain(layout::ROOM));
     }
     if layout::least(starts.len(), lengths.len()) < need.stretches {
-        return Mended::Refused(layout::plain(layout::ROOM));
+        return Err(layout::plain(layout::ROOM));
     }
     let done = window::sweep(s, true, window::start(), out, starts, lengths);
-    Mended::Done(done.written, done.stretches)
+    Ok((done.written, done.stretches))
 }

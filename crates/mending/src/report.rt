@@ -19,11 +19,9 @@ pub(crate) fn put_lines(n: usize, starts: &[u64], lengths: &[u64], out: &mut [u8
     requires { (n ≤ length starts.now) × (n ≤ length lengths.now) × (50 * n ≤ length out.old) }
     ensures { Put out.old 0 (lines_of (take n starts.now) (take n lengths.now)) out.new result × (result ≤ length out.old) }
 {
-    let mut i = 0;
     let mut o = 0;
-    while i < n {
+    for i in 0..n {
         o = put_line(starts[i], lengths[i], out, o);
-        i += 1;
     }
     o
 }

@@ -2,7 +2,7 @@
 ghost use Rattle.std.specs.Prelude.{◌≤◌, length};
 ghost use Rattle.mending.specs.Passed.{Gap, Row};
 
-use recording::{ReadFront, ReadRecord};
+use recording::ReadFront;
 
 // Where the records end that stand one after the other, and how many they are.
 #[derive(Drop)]
@@ -16,6 +16,7 @@ pub(crate) fn gap_end(s: &[u8], from: usize, last: bool) -> usize
     requires { from ≤ length s.now }
     ensures { Gap last s.now from result }
 {
+    // Counted by hand: the must-fail edit `next_place_after_the_refused` is of this step.
     let mut at = from;
     while at < s.len() {
         let part = &s[at..];
@@ -42,21 +43,18 @@ pub(crate) fn run_end(s: &[u8], from: usize, room: usize) -> Run
     let mut end = from;
     let mut records = 0;
     let mut left = room;
+    // No range: each record says itself where the next one starts.
     while end < s.len() {
         let part = &s[end..];
-        match recording::read_record(part) {
-            ReadRecord::Got(_, next) => {
-                if left < next.at {
-                    return Run { end, records };
-                }
-                left -= next.at;
-                end += next.at;
-                records += 1;
-            }
-            ReadRecord::Refused(_) => {
-                return Run { end, records };
-            }
+        let Ok((_, next)) = recording::read_record(part) else {
+            return Run { end, records };
+        };
+        if left < next.at {
+            return Run { end, records };
         }
+        left -= next.at;
+        end += next.at;
+        records += 1;
     }
     Run { end, records }
 }

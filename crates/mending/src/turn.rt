@@ -112,7 +112,7 @@ fn put_last(stretches: u64, t: Tally, report: &mut [u8]) -> usize
     requires { 140 ≤ length report.old }
     ensures { Put report.old 0 (last_line (state stretches t)) report.new result × (result ≤ length report.old) }
 {
-    let dropped = std::num::wrapping_sub_u64(t.place, t.bytes);
+    let dropped = t.place.wrapping_sub(t.bytes);
     report::put_counts(t.records, t.bytes, stretches, dropped, report)
 }
 
@@ -133,7 +133,7 @@ pub fn take_turn(
     let done = mend_held(window, hold, s.tally, out, starts, lengths);
     let tally = done.tally;
     let from = hold.from + done.used;
-    let all = std::num::wrapping_add_u64(s.stretches, done.stretches as u64);
+    let all = s.stretches.wrapping_add(done.stretches as u64);
     if went_on(done.used, done.stretches) {
         let n = report::put_lines(done.stretches, starts, lengths, report);
         let on = standing(from, held, ended, all, tally);

@@ -155,7 +155,7 @@ fn finish(
     requires { (t.untold ≤ t.place) × (told ≤ length starts.old) × (told ≤ length lengths.old) }
     ensures { Finishes (closes all (Mended·least (length starts.old) (length lengths.old) - told) t) used written told starts.old lengths.old result starts.new lengths.new }
 {
-    let slots = layout::least(starts.len(), lengths.len());
+    let slots = starts.len().min(lengths.len());
     if !all {
         return answer(used, written, told, t);
     }
@@ -178,11 +178,12 @@ pub(crate) fn sweep(
     requires { Window·sane from (length s.now) ≡ true }
     ensures { Sweeps (sweep_of last (length out.old) (Mended·least (length starts.old) (length lengths.old)) s.now from) out.old starts.old lengths.old result out.new starts.new lengths.new }
 {
-    let slots = layout::least(starts.len(), lengths.len());
+    let slots = starts.len().min(lengths.len());
     let mut used = 0;
     let mut written = 0;
     let mut told = 0;
     let mut t = from;
+    // No range: each stretch says itself where the next one starts.
     while used < s.len() {
         let gap = search::gap_end(s, used, last);
         t = drops(t, gap - used);

@@ -14,6 +14,7 @@ use Rattle.layout.specs.Answer.{pick}
 use Rattle.layout.proofs.laws.Numbers.{zero_one}
 use Rattle.names.specs.Names.{responses, commands, spelled, given, entry_of, response_name, command_name, response_place, command_place}
 use Rattle.names.specs.Says.{says_name, bytes_at}
+use Rattle.std.specs.declared.option.Option as declared
 use Rattle.names.specs.declared.Name.{Name}
 use Rattle.names.proofs.laws.Spells.{response_spells, command_spells}
 
@@ -30,7 +31,7 @@ nameless f base n code = go (leb base code) refl (ltb (code - base) n) refl
     go true e true g = (λ h. zero_one (cc), λ h. absurd (inside (leb-true base code e) (ltb-true (code - base) n g) h))
     go true e false g = (λ _. inr (omega (arith, leb-true base code e, ltb-false (code - base) n g)), λ _. refl)
 
-module _ (code : ℕ) (r : Name) where
+module _ (code : ℕ) (r : declared.Option Name) where
   -- no name exactly for the codes that the table has not
   pub response_none : says_name r ≡ response_place code → says_name r ≡ none ↔ ((code < 0x2000) ⊎ (0x2020 < code))
   unfolding response_place responses

@@ -4,14 +4,16 @@ use mathlib.Core.Path.{◌≡◌, refl, ap}
 use Prim.Native.Nat.{ℕ}
 use Rattle.layout.proofs.laws.Determined.{Tells}
 use Rattle.names.specs.Says.{says_name}
-use Rattle.names.specs.declared.Name.TheVariants as name
+use Rattle.names.specs.declared.Name.{Name}
+use Rattle.std.specs.declared.option.Option.TheVariants.{Some, None}
+
+abbrev name_at : ℕ × ℕ → Name
+name_at x = record { start = x.0; len = x.1 }
 
 pub tells_name : Tells says_name
-tells_name (name.At a n) (name.At b m) e =
-    let p : ◌≡◌ {A = ℕ × ℕ} (a, n) (b, m) = cc in
-    let s : a ≡ b = ap (λ (x : ℕ × ℕ). x.0) p in
-    let z : n ≡ m = ap (λ (x : ℕ × ℕ). x.1) p in
-    cc
-tells_name (name.At a n) name.None e = cc
-tells_name name.None (name.At b m) e = cc
-tells_name name.None name.None e = refl
+tells_name (Some p) (Some q) e =
+    let same : ◌≡◌ {A = ℕ × ℕ} (p.start, p.len) (q.start, q.len) = cc in
+    ap (λ x. Some (name_at x)) same
+tells_name (Some p) None e = cc
+tells_name None (Some q) e = cc
+tells_name None None e = refl

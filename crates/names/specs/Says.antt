@@ -4,12 +4,13 @@ use Rattle.std.specs.Prelude.{List, ℕ, ◌+◌, ◌≤◌, length, take, drop}
 use Rattle.std.proofs.Math.Option.{Option, none, some}
 use Rattle.names.specs.Names.{name_bytes}
 use Rattle.names.specs.declared.Name.{Name}
-use Rattle.names.specs.declared.Name.TheVariants as name
+use Rattle.std.specs.declared.option.Option as declared
+use Rattle.std.specs.declared.option.Option.TheVariants.{Some, None}
 
 -- start and length in the name bytes
-abbrev pub says_name : Name → Option (ℕ × ℕ)
-says_name (name.At start len) = some (start, len)
-says_name name.None = none
+abbrev pub says_name : declared.Option Name → Option (ℕ × ℕ)
+says_name (Some p) = some (p.start, p.len)
+says_name None = none
 
 -- the bytes at a place
 abbrev pub bytes_at : ℕ × ℕ → List ℕ

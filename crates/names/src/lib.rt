@@ -5,11 +5,11 @@ ghost use Rattle.std.specs.Prelude.{◌≡◌};
 ghost use Rattle.names.specs.Names.{name_bytes, response_place, command_place};
 ghost use Rattle.names.specs.Says.{says_name};
 
-// Where a name stands in the name bytes, or that the code has none.
-#[derive(Drop)]
-pub enum Name {
-    At { start: usize, len: usize },
-    None,
+// Where a name stands in the name bytes.
+#[derive(Clone, Copy, Debug, PartialEq, Eq)]
+pub struct Name {
+    pub start: usize,
+    pub len: usize,
 }
 
 // The names end to end: the responses', then the commands'.
@@ -55,34 +55,34 @@ pub fn name_bytes() -> [u8; 975]
     NAMES
 }
 
-pub fn response_name(code: u16) -> Name
+pub fn response_name(code: u16) -> Option<Name>
     ensures { says_name result ≡ response_place code }
 {
     if code < 0x2000 {
-        return Name::None;
+        return None;
     }
     let k = (code - 0x2000) as usize;
     if k >= 33 {
-        return Name::None;
+        return None;
     }
-    Name::At {
+    Some(Name {
         start: RESPONSE_STARTS[k] as usize,
         len: RESPONSE_LENGTHS[k] as usize,
-    }
+    })
 }
 
-pub fn command_name(code: u16) -> Name
+pub fn command_name(code: u16) -> Option<Name>
     ensures { says_name result ≡ command_place code }
 {
     if code < 0x1000 {
-        return Name::None;
+        return None;
     }
     let k = (code - 0x1000) as usize;
     if k >= 29 {
-        return Name::None;
+        return None;
     }
-    Name::At {
+    Some(Name {
         start: COMMAND_STARTS[k] as usize,
         len: COMMAND_LENGTHS[k] as usize,
-    }
+    })
 }

@@ -1,5 +1,6 @@
 -- A packet's word that stands in any bytes is read, with its numbers and its bytes.
 -- Assumes nothing.
+use Rattle.wire.specs.Read.{Read, says_read}
 use mathlib.Core.Path.{◌≡◌, refl, sym, ap, ◌∙◌}
 use mathlib.Core.Bool.{true}
 use mathlib.Core.List.{List, ◌++◌}
@@ -15,9 +16,8 @@ use Rattle.layout.proofs.laws.Numbers.{length_bytes, number_bytes}
 use Rattle.layout.proofs.laws.Reading.{field_there}
 use Rattle.layout.proofs.laws.Words.{front, split}
 use Rattle.wire.specs.Returned.{part_of}
-use Rattle.network.specs.Packet.{is_packet, phase_size, code_size, total_size, head_size, whole_fields, packet_in, packet_rest, packet_at, packet_word, says_packet}
+use Rattle.network.specs.Packet.{is_packet, phase_size, code_size, total_size, head_size, whole_fields, packet_in, packet_rest, packet_at, packet_word}
 use Rattle.network.specs.declared.packet.Packet.{Packet}
-use Rattle.network.specs.declared.packet.ReadPacket.{ReadPacket}
 use Rattle.network.proofs.PutLaws.{packet_length}
 
 -- the packet of these fields at a place
@@ -92,5 +92,5 @@ module _ (kind phase code tid total : ℕ) (body : List ℕ) (f : Fitting kind p
       )
 
   -- of the function's own answer: its numbers, and where its bytes are
-  pub packet_back : (r : ReadPacket) → says_packet r ≡ packet_at s at → (says_packet r ≡ got (placed at kind phase code tid total (length body)) (at + (head_size kind + length body))) × (part_of s (record { start = at + head_size kind; count = length body }) ≡ body)
+  pub packet_back : (r : Read Packet) → says_read r ≡ packet_at s at → (says_read r ≡ got (placed at kind phase code tid total (length body)) (at + (head_size kind + length body))) × (part_of s (record { start = at + head_size kind; count = length body }) ≡ body)
   packet_back r promised = (promised ∙ packet_there.0, packet_there.1)

@@ -1,5 +1,6 @@
 -- What `read_packet` answers, said with no reader: it meets specs/PacketSays, which determines the answer.
 -- Assumes nothing.
+use Rattle.wire.specs.Read.{Read, says_read}
 use mathlib.Core.Path.{◌≡◌, refl, sym, ap, subst, ◌∙◌}
 use mathlib.Core.Bool.{Bool, true, false}
 use mathlib.Core.List.{List}
@@ -15,10 +16,9 @@ use Rattle.layout.specs.Bytes.{number}
 use Rattle.layout.proofs.laws.Numbers.{zero_one}
 use Rattle.wire.specs.Tests.{◌gives◌else◌, holds, fails}
 use Rattle.wire.proofs.laws.Judged.{one_test, the_same, least_row, field_row}
-use Rattle.network.specs.Packet.{is_packet, phase_size, code_size, total_size, whole_fields, packet_in, packet_rest, packet_at, says_packet}
+use Rattle.network.specs.Packet.{is_packet, phase_size, code_size, total_size, whole_fields, packet_in, packet_rest, packet_at}
 use Rattle.network.specs.PacketSays.{field_in, length_in, packet_kind_in, IsKind, WholeFields, FieldsIn, Accepted, accepted, PacketSays, request, response, start_data, data_packet, end_data, request_length, response_length, start_data_length, data_packet_length, end_data_length, request_fields, response_fields, start_data_fields, data_packet_fields, end_data_fields}
 use Rattle.network.specs.declared.packet.Packet.{Packet}
-use Rattle.network.specs.declared.packet.ReadPacket.{ReadPacket}
 use Rattle.network.proofs.PacketLaws.{held}
 
 -- a test that is true exactly where a statement holds
@@ -141,5 +141,5 @@ pub packet_one : (at : ℕ) (d : List ℕ) (x y : Answer Packet) → PacketSays 
 packet_one at d = one_test (one_test (one_test (one_test (one_test accepted_one))))
 
 -- of the function's own answers
-pub packet_says : (s : List ℕ) (at : ℕ) (r : ReadPacket) → says_packet r ≡ packet_at s at → PacketSays at (drop at s) (says_packet r)
+pub packet_says : (s : List ℕ) (at : ℕ) (r : Read Packet) → says_read r ≡ packet_at s at → PacketSays at (drop at s) (says_read r)
 packet_says s at r promised = rw promised (packet_judged s at)

@@ -1,5 +1,8 @@
 -- What went to the network comes back the same.
 -- Assumes nothing.
+use Rattle.layout.specs.Answer.{says_count}
+use Rattle.std.specs.declared.result.Result.{Result}
+use Rattle.layout.specs.declared.Refusal.{Refusal}
 use mathlib.Core.Path.{◌≡◌, refl, sym, ap, subst, ◌∙◌}
 use mathlib.Core.List.{List, [], ◌++◌, append-nil}
 use mathlib.Core.Option.{Option, some, none}
@@ -9,8 +12,7 @@ use lib.ListN.{length, take, drop}
 use lib.Seq.{take_at}
 use Rattle.layout.specs.Answer.{got}
 use Rattle.layout.specs.Bytes.{Bytes}
-use Rattle.layout.specs.Written.{says, Wrote, says_written}
-use Rattle.layout.specs.declared.Written.{Written}
+use Rattle.layout.specs.Written.{says, Wrote}
 use Rattle.layout.proofs.laws.Did.{whole}
 use Rattle.layout.proofs.laws.Writing.{wrote_so}
 use Rattle.network.specs.Packet.{packet_word}
@@ -44,8 +46,8 @@ round_trip d s p h e =
     ap from_said is ∙ from_complete (tidy_word d t) t (tidy_is d t c.fits) ∙ ap says (sym c.word)
 
 -- of the functions' own answers, byte for byte: what was written, given back with room enough, is what was given
-module _ (d : Direction) (s old new : List ℕ) (n : ℕ) (h : Bytes s) (there : Wrote (to_said d s) old (got tt n) new) (old' new' : List ℕ) (r : Written) (back : Wrote (from_said (take n new)) old' (says_written r) new') (room : length s ≤ length old') where
-  pub round_trip_written : (says_written r ≡ got tt (length s)) × (new' ≡ s ++ drop (length s) old')
+module _ (d : Direction) (s old new : List ℕ) (n : ℕ) (h : Bytes s) (there : Wrote (to_said d s) old (got tt n) new) (old' new' : List ℕ) (r : Result ℕ Refusal) (back : Wrote (from_said (take n new)) old' (says_count r) new') (room : length s ≤ length old') where
+  pub round_trip_written : (says_count r ≡ got tt (length s)) × (new' ≡ s ++ drop (length s) old')
   round_trip_written =
       let w = whole there in
       let front : take n new ≡ w.bs = ap (take n) w.left ∙ take_at w.bs (drop (length w.bs) old) n (sym w.count) in

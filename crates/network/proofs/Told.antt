@@ -1,5 +1,9 @@
 -- Which refusals have a place: 1 and no other; and it lies in the bytes that were lent. So do the parts of a packet that is accepted.
 -- Assumes nothing.
+use Rattle.layout.specs.Answer.{says_count}
+use Rattle.std.specs.declared.result.Result.{Result}
+use Rattle.wire.specs.Read.{Read, says_read}
+use Rattle.layout.specs.declared.Refusal.{Refusal}
 use mathlib.Core.Path.{◌≡◌, refl, sym, subst}
 use mathlib.Core.Bool.{Bool, true, false}
 use mathlib.Core.List.{List}
@@ -11,8 +15,7 @@ use lib.ListN.{length, drop, length-drop}
 use Rattle.layout.specs.Answer.{Told, Answer, got, refused, Reader, pick, means, bare}
 use Rattle.layout.specs.Refusals.{TEXT, TID, ROOM, COUNT}
 use Rattle.layout.specs.Told.{PlacedExactly, Inside}
-use Rattle.layout.specs.Written.{Said, says, no, Wrote, says_written}
-use Rattle.layout.specs.declared.Written.{Written}
+use Rattle.layout.specs.Written.{Said, says, no, Wrote}
 use Rattle.layout.proofs.laws.Accepted.{accepted}
 use Rattle.layout.proofs.laws.Did.{Kept, not_due, too_short, kept}
 use Rattle.layout.proofs.laws.Numbers.{zero_one}
@@ -22,12 +25,11 @@ use Rattle.wire.specs.Tests.{holds, fails}
 use Rattle.wire.proofs.laws.Judged.{least}
 use Rattle.wire.proofs.laws.Told.{container_telling}
 use Rattle.network.specs.Refusals.{PACKET, FIELDS, TRANSACTION}
-use Rattle.network.specs.Packet.{packet_at, says_packet}
+use Rattle.network.specs.Packet.{packet_at}
 use Rattle.network.specs.PacketSays.{length_in, PacketSays}
 use Rattle.network.specs.PacketSays as packet
 use Rattle.network.specs.Translated.{items_from, items_in, folded, none_seen, look_container, look_packet, data_in, is_answered, to_judged, from_judged, said_or, to_said, from_said}
 use Rattle.network.specs.declared.packet.Packet.{Packet}
-use Rattle.network.specs.declared.packet.ReadPacket.{ReadPacket}
 use Rattle.network.specs.declared.see.Seen.{Seen}
 use Rattle.network.specs.declared.translate.Direction.{Direction}
 use Rattle.network.proofs.PacketLaws.{Stood, packet_stands}
@@ -56,12 +58,12 @@ module _ {P : ℕ → Type 0} (s : List ℕ) (closed : Closed P s) where
 
 -- ── a packet ──
 
-module _ (s : List ℕ) (at : ℕ) (r : ReadPacket) (promised : says_packet r ≡ packet_at s at) where
-  pub packet_told : PlacedExactly (says_packet r)
+module _ (s : List ℕ) (at : ℕ) (r : Read Packet) (promised : says_read r ≡ packet_at s at) where
+  pub packet_told : PlacedExactly (says_read r)
   packet_told = telling_exactly (telling_same promised (packet_telling s (everywhere s) at tt))
 
   -- from a place in the bytes
-  pub packet_told_inside : at ≤ length s → Inside (length s) (says_packet r)
+  pub packet_told_inside : at ≤ length s → Inside (length s) (says_read r)
   packet_told_inside h = telling_inside (telling_same promised (packet_telling s (up_to s (le_refl (length s))) at h))
 
 -- its parameters or data end with it, and it ends in the bytes
@@ -122,23 +124,23 @@ module _ {P : ℕ → Type 0} where
       items_tell (λ xs. from_judged s (folded look_packet none_seen xs) (data_in s xs)) (λ xs. from_plain s (folded look_packet none_seen xs) (data_in s xs)) (items_in packet_at s) (items_telling s closed packet_at (packet_telling s closed) (length s) 0 h)
 
 -- a writer's answer: its own refusals, or 9
-module _ (said : Said) (s old new : List ℕ) (r : Written) (promised : Wrote said old (says_written r) new) (tells : (P : ℕ → Type 0) → Closed P s → P 0 → Tells P said) where
-  written_tells : {P : ℕ → Type 0} → Closed P s → P 0 → (t : Told) → says_written r ≡ refused t → Telling {A = Unit {0}} P (refused t)
+module _ (said : Said) (s old new : List ℕ) (r : Result ℕ Refusal) (promised : Wrote said old (says_count r) new) (tells : (P : ℕ → Type 0) → Closed P s → P 0 → Tells P said) where
+  written_tells : {P : ℕ → Type 0} → Closed P s → P 0 → (t : Told) → says_count r ≡ refused t → Telling {A = Unit {0}} P (refused t)
   written_tells {P} closed h t e = go (kept (subst (λ a. Wrote said old a new) e promised)).1
     where
       go : Kept said old t → Telling {A = Unit {0}} P (refused t)
       go (not_due f) = tells P closed h t f
       go (too_short w f l is) = subst (λ u. Telling {A = Unit {0}} P (refused u)) (sym is) (plainly ROOM (omega arith))
 
-  written_told : PlacedExactly (says_written r) × Inside (length s) (says_written r)
+  written_told : PlacedExactly (says_count r) × Inside (length s) (says_count r)
   written_told = (
     record { exactly = λ t e. (telling_exactly (written_tells (everywhere s) tt t e)).exactly t refl; else_none = λ t e. (telling_exactly (written_tells (everywhere s) tt t e)).else_none t refl },
     λ t e. telling_inside (written_tells (up_to s (le_refl (length s))) (omega arith) t e) t refl,
   )
 
-module _ (s old new : List ℕ) (r : Written) where
-  pub to_told : (d : Direction) → Wrote (to_said d s) old (says_written r) new → PlacedExactly (says_written r) × Inside (length s) (says_written r)
+module _ (s old new : List ℕ) (r : Result ℕ Refusal) where
+  pub to_told : (d : Direction) → Wrote (to_said d s) old (says_count r) new → PlacedExactly (says_count r) × Inside (length s) (says_count r)
   to_told d promised = written_told (to_said d s) s old new r promised λ P. to_tells d s
 
-  pub from_told : Wrote (from_said s) old (says_written r) new → PlacedExactly (says_written r) × Inside (length s) (says_written r)
+  pub from_told : Wrote (from_said s) old (says_count r) new → PlacedExactly (says_count r) × Inside (length s) (says_count r)
   from_told promised = written_told (from_said s) s old new r promised λ P. from_tells s

@@ -1,12 +1,14 @@
 -- Bytes are due exactly where they are a transaction's, and then its words on the other side; so however its data are cut, the same containers come.
 -- Assumes nothing.
+use Rattle.layout.specs.Answer.{says_count}
+use Rattle.std.specs.declared.result.Result.{Result}
+use Rattle.layout.specs.declared.Refusal.{Refusal}
 use mathlib.Core.Path.{◌≡◌, refl, sym, ap, subst, ◌∙◌}
 use mathlib.Core.Logic.{◌↔◌}
 use mathlib.Core.List.{List}
 use Prim.Native.Nat.{ℕ}
 use Rattle.layout.specs.Bytes.{Bytes}
-use Rattle.layout.specs.Written.{says, Wrote, says_written}
-use Rattle.layout.specs.declared.Written.{Written}
+use Rattle.layout.specs.Written.{says, Wrote}
 use Rattle.layout.proofs.laws.Determined.{one_written}
 use Rattle.network.specs.Transaction.{Transaction, Containers, containers_word, Packets, tidy_word}
 use Rattle.network.specs.Translated.{to_said, from_said}
@@ -35,5 +37,5 @@ pub cuts_join : (p q : List ℕ) (t : Transaction) → Packets p t → Packets q
 cuts_join p q t x y = from_complete p t x ∙ sym (from_complete q t y)
 
 -- of the functions' own answers: with the same output before it, the same answer and the same output after it
-pub cuts_join_written : (p q : List ℕ) (t : Transaction) → Packets p t → Packets q t → (old new new' : List ℕ) (a b : Written) → Wrote (from_said p) old (says_written a) new → Wrote (from_said q) old (says_written b) new' → (a ≡ b) × (new ≡ new')
-cuts_join_written p q t x y old new new' a b u v = one_written (from_said p) old new new' a b u (subst (λ said. Wrote said old (says_written b) new') (sym (cuts_join p q t x y)) v)
+pub cuts_join_written : (p q : List ℕ) (t : Transaction) → Packets p t → Packets q t → (old new new' : List ℕ) (a b : Result ℕ Refusal) → Wrote (from_said p) old (says_count a) new → Wrote (from_said q) old (says_count b) new' → (a ≡ b) × (new ≡ new')
+cuts_join_written p q t x y old new new' a b u v = one_written (from_said p) old new new' a b u (subst (λ said. Wrote said old (says_count b) new') (sym (cuts_join p q t x y)) v)

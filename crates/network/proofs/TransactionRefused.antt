@@ -1,5 +1,8 @@
 -- What the translators answer meets specs/TransactionSays, and what is said there determines the answer and the output: each refusal by its condition, in both directions.
 -- Assumes nothing.
+use Rattle.layout.specs.Answer.{says_count}
+use Rattle.std.specs.declared.result.Result.{Result}
+use Rattle.layout.specs.declared.Refusal.{Refusal}
 use mathlib.Core.Path.{◌≡◌, refl, sym, ap, subst, ◌∙◌}
 use mathlib.Core.Bool.{Bool, true, false}
 use mathlib.Core.Logic.{◌↔◌}
@@ -12,8 +15,7 @@ use lib.ListN.{length, drop}
 use Rattle.layout.specs.Answer.{Told, Answer, got, refused, Reader, pick, after, means, bare}
 use Rattle.layout.specs.Bytes.{Bytes}
 use Rattle.layout.specs.Refusals.{ROOM}
-use Rattle.layout.specs.Written.{Said, says, no, answer_of, left_of, Wrote, says_written}
-use Rattle.layout.specs.declared.Written.{Written}
+use Rattle.layout.specs.Written.{Said, says, no, answer_of, left_of, Wrote}
 use Rattle.layout.proofs.laws.Accepted.{accepted}
 use Rattle.layout.proofs.laws.Numbers.{zero_one}
 use Rattle.wire.specs.Container.{container_at}
@@ -212,17 +214,17 @@ module _ (Says : Said → Type 0) (said : Said) (is_said : Says said) (old new :
       let f = le-leb (length v) (length old) l in
       (promised.answers ∙ rw (e, f), promised.leaves ∙ rw (e, f))
 
-module _ (s : List ℕ) (h : Bytes s) (old new : List ℕ) (r : Written) where
-  module _ (d : Direction) (promised : Wrote (to_said d s) old (says_written r) new) where
-    pub to_says : Answers (ToSays d s) old (says_written r) new
-    to_says = answers (ToSays d s) (to_said d s) (to-judged d s h) old new (says_written r) promised
+module _ (s : List ℕ) (h : Bytes s) (old new : List ℕ) (r : Result ℕ Refusal) where
+  module _ (d : Direction) (promised : Wrote (to_said d s) old (says_count r) new) where
+    pub to_says : Answers (ToSays d s) old (says_count r) new
+    to_says = answers (ToSays d s) (to_said d s) (to-judged d s h) old new (says_count r) promised
 
-    pub to_says_one : {y : Answer (Unit {0})} {m : List ℕ} → Answers (ToSays d s) old y m → (says_written r ≡ y) × (new ≡ m)
-    to_says_one = answers_one (ToSays d s) (to_said d s) (to-judged d s h) old new (says_written r) promised λ y. to_one d s (to-judged d s h)
+    pub to_says_one : {y : Answer (Unit {0})} {m : List ℕ} → Answers (ToSays d s) old y m → (says_count r ≡ y) × (new ≡ m)
+    to_says_one = answers_one (ToSays d s) (to_said d s) (to-judged d s h) old new (says_count r) promised λ y. to_one d s (to-judged d s h)
 
-  module _ (promised : Wrote (from_said s) old (says_written r) new) where
-    pub from_says : Answers (FromSays s) old (says_written r) new
-    from_says = answers (FromSays s) (from_said s) (from-judged s h) old new (says_written r) promised
+  module _ (promised : Wrote (from_said s) old (says_count r) new) where
+    pub from_says : Answers (FromSays s) old (says_count r) new
+    from_says = answers (FromSays s) (from_said s) (from-judged s h) old new (says_count r) promised
 
-    pub from_says_one : {y : Answer (Unit {0})} {m : List ℕ} → Answers (FromSays s) old y m → (says_written r ≡ y) × (new ≡ m)
-    from_says_one = answers_one (FromSays s) (from_said s) (from-judged s h) old new (says_written r) promised λ y. from_one s (from-judged s h)
+    pub from_says_one : {y : Answer (Unit {0})} {m : List ℕ} → Answers (FromSays s) old y m → (says_count r ≡ y) × (new ≡ m)
+    from_says_one = answers_one (FromSays s) (from_said s) (from-judged s h) old new (says_count r) promised λ y. from_one s (from-judged s h)

@@ -1,13 +1,12 @@
 -- What the crate's own functions promise each other, and no public one names.
 -- Assumes nothing.
-use Rattle.std.specs.Prelude.{◌≡◌, Bool, true, false, List, [], ℕ, ◌+◌, ◌≤◌, length}
+use Rattle.std.specs.Prelude.{◌≡◌, Bool, true, false, List, [], ℕ, ◌+◌, ◌≤◌, length, IfOk}
 use Rattle.layout.specs.Answer.{Answer, got, refused, Reader, means}
+use Rattle.wire.specs.Read.{Read, says_read}
 use Rattle.network.specs.Packet.{packet_at}
 use Rattle.network.specs.Translated.{items_in, folded, none_seen, data_in}
 use Rattle.network.specs.declared.packet.Packet.{Packet}
 use Rattle.network.specs.declared.see.Seen.{Seen}
-use Rattle.network.specs.declared.see.Sight.{Sight}
-use Rattle.network.specs.declared.see.Sight.TheVariants as sight
 use Rattle.network.specs.declared.translate.Direction.{Direction}
 use Rattle.network.specs.declared.translate.Direction.TheVariants as direction
 
@@ -22,17 +21,9 @@ pub record Within (s : List ℕ) (t : Seen) : Type 0 where
   pub payload : t.payload.start + t.payload.count ≤ length s
   pub results : t.results.start + t.results.count ≤ length s
 
-abbrev pub says_sight : Sight → Answer Seen
-says_sight (sight.Whole t c) = got t c.at
-says_sight (sight.Refused t) = refused t
-
-abbrev pub SightWithin : List ℕ → Sight → Type 0
-SightWithin s (sight.Whole t c) = Within s t
-SightWithin s (sight.Refused t) = Unit {0}
-
-pub record Sees {A : Type 0} (read : Reader A) (look : Seen → A → Seen) (s : List ℕ) (r : Sight) : Type 0 where
-  pub says : says_sight r ≡ means (folded look none_seen) (items_in read s)
-  pub within : SightWithin s r
+pub record Sees {A : Type 0} (read : Reader A) (look : Seen → A → Seen) (s : List ℕ) (r : Read Seen) : Type 0 where
+  pub says : says_read r ≡ means (folded look none_seen) (items_in read s)
+  pub within : IfOk r (λ x. Within s x.0)
 
 abbrev pub readings : {A : Type 0} → Answer (List A) → List A
 readings (got xs n) = xs

@@ -1,9 +1,10 @@
 // Packets: one layout for all kinds, in which a field that a kind has not is of no bytes.
+ghost use Rattle.wire.specs.Read.{says_read};
 ghost use Rattle.std.specs.Prelude.{◌≡◌, ◌+◌, ◌≤◌, length};
-ghost use Rattle.network.specs.Packet.{is_packet, phase_size, code_size, total_size, head_size, whole_fields, packet_in, packet_rest, packet_at, says_packet};
+ghost use Rattle.network.specs.Packet.{is_packet, phase_size, code_size, total_size, head_size, whole_fields, packet_in, packet_rest, packet_at};
 
 use layout::Refusal;
-use wire::{Cursor, Part, ReadU32};
+use wire::{Cursor, Part, Read};
 
 // A packet of any kind, its parameters or data by their place; a number that its kind has not is 0.
 #[derive(Clone, Copy)]
@@ -14,12 +15,6 @@ pub struct Packet {
     pub number: u32,
     pub total: u64,
     pub body: Part,
-}
-
-#[derive(Drop)]
-pub enum ReadPacket {
-    Got(Packet, Cursor),
-    Refused(Refusal),
 }
 
 fn is_packet(kind: u32) -> bool
@@ -110,32 +105,30 @@ fn packet_in(s: &[u8], at: usize, kind: u32, len: usize) -> Packet
 }
 
 // What follows length and kind.
-fn packet_rest(s: &[u8], at: usize, len: usize, kind: u32) -> ReadPacket
+#[tactic(auto, unfolding(crate::specs::Packet::packet_rest), using(crate::proofs::PacketLaws::whole_head))]
+fn packet_rest(s: &[u8], at: usize, len: usize, kind: u32) -> Read<Packet>
     requires { at + 8 ≤ length s.now }
-    ensures { says_packet result ≡ packet_rest len kind s.now at }
+    ensures { says_read result ≡ packet_rest len kind s.now at }
 {
     if !is_packet(kind) {
-        return ReadPacket::Refused(layout::plain(crate::PACKET));
+        return Err(layout::plain(crate::PACKET));
     }
     if !whole_fields(kind, len) {
-        return ReadPacket::Refused(layout::plain(crate::FIELDS));
+        return Err(layout::plain(crate::FIELDS));
     }
     if s.len() - at < len {
-        return ReadPacket::Refused(layout::end_at(at + 8));
+        return Err(layout::end_at(at + 8));
     }
-    ReadPacket::Got(packet_in(s, at, kind, len), Cursor { at: at + len })
+    Ok((packet_in(s, at, kind, len), Cursor { at: at + len }))
 }
 
 // The packet at a place.
-pub fn read_packet(s: &[u8], c: Cursor) -> ReadPacket
-    ensures { says_packet result ≡ packet_at s.now c.at }
+#[tactic(auto, unfolding(crate::specs::Packet::packet_at, layout::specs::Answer::after))]
+pub fn read_packet(s: &[u8], c: Cursor) -> Read<Packet>
+    ensures { says_read result ≡ packet_at s.now c.at }
 {
     let at = c.at;
-    match c.u32(s) {
-        ReadU32::Got(len, a) => match a.u32(s) {
-            ReadU32::Got(kind, _) => packet_rest(s, at, len as usize, kind),
-            ReadU32::Refused(f) => ReadPacket::Refused(f),
-        },
-        ReadU32::Refused(f) => ReadPacket::Refused(f),
-    }
+    let (len, next) = c.u32(s)?;
+    let (kind, _) = next.u32(s)?;
+    packet_rest(s, at, len as usize, kind)
 }

@@ -10,7 +10,6 @@ ghost use Rattle.network.specs.Packet.{head_size, packet_word};
 ghost use Rattle.network.specs.Transaction.{data_packets, data_container};
 ghost use Rattle.network.specs.Inner.{AllPackets, data_of};
 
-use crate::packet::ReadPacket;
 use crate::{packet, see};
 use wire::{Cursor, Part};
 
@@ -95,23 +94,21 @@ pub(crate) fn put_container(
 }
 
 // The bytes of data and end data, joined.
+#[tactic(auto, using(crate::proofs::PutLaws::piecing, crate::proofs::PutLaws::piece_next, crate::proofs::PutLaws::piece_never, crate::proofs::PutLaws::piece_end))]
 fn put_pieces(s: &[u8], out: &mut [u8], at: usize) -> usize
     requires { AllPackets s.now × (at + length (data_of s.now) ≤ length out.old) }
     ensures { Put out.old at (data_of s.now) out.new result }
 {
     let mut o = at;
     let mut i: usize = 0;
+    // No range: each packet says itself where the next one starts.
     while i < s.len() {
-        match packet::read_packet(s, Cursor { at: i }) {
-            ReadPacket::Got(x, next) => {
-                o = layout::copy(s, x.body.start, see::piece_size(x), out, o);
-                i = next.at;
-            }
-            // Never: all are packets.
-            ReadPacket::Refused(_) => {
-                return o;
-            }
-        }
+        // never refused: all are packets
+        let Ok((x, next)) = packet::read_packet(s, Cursor { at: i }) else {
+            return o;
+        };
+        o = layout::copy(s, x.body.start, see::piece_size(x), out, o);
+        i = next.at;
     }
     o
 }

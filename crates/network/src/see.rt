@@ -8,9 +8,8 @@ ghost use Rattle.network.specs.Inner.{Sees};
 ghost use Rattle.network.specs.Translated.{none_seen, both, five_whole, next_container, next_packet, noted, piece_size, look_container, look_packet};
 
 use crate::packet;
-use crate::packet::{Packet, ReadPacket};
-use layout::Refusal;
-use wire::{Container, Cursor, Part, ReadContainer};
+use crate::packet::Packet;
+use wire::{Container, Cursor, Part, Read};
 
 // How far a row of items is a transaction: nothing yet; a Command or request; start data; all data; a Response; or it is none.
 #[derive(Clone, Copy)]
@@ -40,13 +39,6 @@ pub(crate) struct Seen {
     pub sum: usize,
 }
 
-// All items and the place after them, or the first refusal.
-#[derive(Drop)]
-pub(crate) enum Sight {
-    Whole(Seen, Cursor),
-    Refused(Refusal),
-}
-
 // Choices are calls, so that a turn of a loop has no branch and its proof no cases.
 fn and(a: bool, b: bool) -> bool
     ensures { result ≡ both a b }
@@ -60,25 +52,13 @@ fn stage_if(test: bool, x: Stage, y: Stage) -> Stage
     if test { x } else { y }
 }
 
-fn number_if(test: bool, x: u64, y: u64) -> u64
-    ensures { result ≡ pick test x y }
-{
-    if test { x } else { y }
-}
-
 pub(crate) fn size_if(test: bool, x: usize, y: usize) -> usize
     ensures { result ≡ pick test x y }
 {
     if test { x } else { y }
 }
 
-fn part_if(test: bool, x: Part, y: Part) -> Part
-    ensures { result ≡ pick test x y }
-{
-    if test { x } else { y }
-}
-
-fn bool_if(test: bool, x: bool, y: bool) -> bool
+fn choose<T: Copy>(test: bool, x: T, y: T) -> T
     ensures { result ≡ pick test x y }
 {
     if test { x } else { y }
@@ -145,21 +125,21 @@ fn note(
     requires { t.sum + more < 2 ^ 64 }
     ensures { result ≡ noted next asks holds answers code number body total more t }
 {
-    let ours = number_if(asks, number, t.number);
+    let ours = choose(asks, number, t.number);
     let params = t.params;
     let payload = t.payload;
     let results = t.results;
     Seen {
         stage: next,
         same: and(t.same, number == ours),
-        has: bool_if(holds, true, t.has),
-        code: number_if(asks, code, t.code),
+        has: choose(holds, true, t.has),
+        code: choose(asks, code, t.code),
         number: ours,
-        params: part_if(asks, body, params),
-        payload: part_if(holds, body, payload),
-        response: number_if(answers, code, t.response),
-        results: part_if(answers, body, results),
-        total: number_if(holds, total, t.total),
+        params: choose(asks, body, params),
+        payload: choose(holds, body, payload),
+        response: choose(answers, code, t.response),
+        results: choose(answers, body, results),
+        total: choose(holds, total, t.total),
         sum: t.sum + more,
     }
 }
@@ -238,40 +218,33 @@ fn none_seen() -> Seen
     }
 }
 
-pub(crate) fn see_containers(s: &[u8]) -> Sight
+// All items and the place after them, or the first refusal.
+#[tactic(auto, using(crate::proofs::ItemsLaws::seeing, crate::proofs::ItemsLaws::rest_none, crate::proofs::ItemsLaws::rest_refused, crate::proofs::SeenLoop::container_seen))]
+pub(crate) fn see_containers(s: &[u8]) -> Read<Seen>
     ensures { Sees container_at look_container s.now result }
 {
     let mut at: usize = 0;
     let mut t = none_seen();
+    // No range: each of them says itself where the next one starts.
     while at < s.len() {
-        match wire::read_container(s, Cursor { at }) {
-            ReadContainer::Got(x, next) => {
-                t = look_container(t, x);
-                at = next.at;
-            }
-            ReadContainer::Refused(f) => {
-                return Sight::Refused(f);
-            }
-        }
+        let (x, next) = wire::read_container(s, Cursor { at })?;
+        t = look_container(t, x);
+        at = next.at;
     }
-    Sight::Whole(t, Cursor { at })
+    Ok((t, Cursor { at }))
 }
 
-pub(crate) fn see_packets(s: &[u8]) -> Sight
+#[tactic(auto, using(crate::proofs::ItemsLaws::seeing, crate::proofs::ItemsLaws::rest_none, crate::proofs::ItemsLaws::rest_refused, crate::proofs::SeenLoop::packet_seen))]
+pub(crate) fn see_packets(s: &[u8]) -> Read<Seen>
     ensures { Sees packet_at look_packet s.now result }
 {
     let mut at: usize = 0;
     let mut t = none_seen();
+    // No range: each of them says itself where the next one starts.
     while at < s.len() {
-        match packet::read_packet(s, Cursor { at }) {
-            ReadPacket::Got(x, next) => {
-                t = look_packet(t, x);
-                at = next.at;
-            }
-            ReadPacket::Refused(f) => {
-                return Sight::Refused(f);
-            }
-        }
+        let (x, next) = packet::read_packet(s, Cursor { at })?;
+        t = look_packet(t, x);
+        at = next.at;
     }
-    Sight::Whole(t, Cursor { at })
+    Ok((t, Cursor { at }))
 }

@@ -1,15 +1,16 @@
 // One transaction's containers as packets, and back. All items are judged before a byte is written.
+ghost use Rattle.layout.specs.Answer.{says_count};
 ghost use Rattle.std.specs.Prelude.{◌≡◌, ◌+◌, ◌≤◌, length};
 ghost use Rattle.layout.specs.Answer.{pick};
-ghost use Rattle.layout.specs.Written.{Wrote, Put, says_written};
+ghost use Rattle.layout.specs.Written.{Wrote, Put};
 ghost use Rattle.wire.specs.Returned.{part_of};
 ghost use Rattle.network.specs.Transaction.{tidy_word, containers_word};
 ghost use Rattle.network.specs.Inner.{Within, AllPackets, data_of, phase_if};
 ghost use Rattle.network.specs.Translated.{is_answered, seen_in, to_judged, from_judged, to_said, from_said};
 
-use crate::see::{Seen, Sight, Stage};
+use crate::see::{Seen, Stage};
 use crate::{put, see};
-use layout::Written;
+use layout::Refusal;
 
 // From the camera, or to it.
 #[derive(Drop)]
@@ -67,40 +68,35 @@ fn put_packets(s: &[u8], d: Direction, t: Seen, out: &mut [u8]) -> usize
 }
 
 // What was seen, in the order of the tests: 22, 7, then 9.
-fn write_packets(s: &[u8], d: Direction, t: Seen, out: &mut [u8]) -> Written
+fn write_packets(s: &[u8], d: Direction, t: Seen, out: &mut [u8]) -> Result<usize, Refusal>
     requires { Within s.now t }
-    ensures { Wrote (to_judged d s.now t) out.old (says_written result) out.new }
+    ensures { Wrote (to_judged d s.now t) out.old (says_count result) out.new }
 {
-    let k = t.stage;
-    if !is_answered(k) {
-        return Written::Refused(layout::plain(crate::TRANSACTION));
+    if !is_answered(t.stage) {
+        return Err(layout::plain(crate::TRANSACTION));
     }
     if !t.same {
-        return Written::Refused(layout::plain(layout::TID));
+        return Err(layout::plain(layout::TID));
     }
-    let params = t.params;
-    let payload = t.payload;
-    let results = t.results;
     if !put::has_room(
         out.len(),
         see::size_if(t.has, 64, 32),
-        params.count,
-        see::size_if(t.has, payload.count, 0),
-        results.count,
+        t.params.count,
+        see::size_if(t.has, t.payload.count, 0),
+        t.results.count,
     ) {
-        return Written::Refused(layout::plain(layout::ROOM));
+        return Err(layout::plain(layout::ROOM));
     }
-    Written::Done(put_packets(s, d, t, out))
+    Ok(put_packets(s, d, t, out))
 }
 
 // One transaction's containers as packets: start data and end data for its Data, and all data in end data.
-pub fn to_network(s: &[u8], d: Direction, out: &mut [u8]) -> Written
-    ensures { Wrote (to_said d s.now) out.old (says_written result) out.new }
+#[tactic(auto, using(crate::proofs::TranslatedLaws::to_seen))]
+pub fn to_network(s: &[u8], d: Direction, out: &mut [u8]) -> Result<usize, Refusal>
+    ensures { Wrote (to_said d s.now) out.old (says_count result) out.new }
 {
-    match see::see_containers(s) {
-        Sight::Whole(t, _) => write_packets(s, d, t, out),
-        Sight::Refused(f) => Written::Refused(f),
-    }
+    let (t, _) = see::see_containers(s)?;
+    write_packets(s, d, t, out)
 }
 
 fn put_containers(s: &[u8], t: Seen, out: &mut [u8]) -> usize
@@ -115,43 +111,39 @@ fn put_containers(s: &[u8], t: Seen, out: &mut [u8]) -> usize
 }
 
 // The same, back: 22, 21, 7, 10, then 9.
-fn write_containers(s: &[u8], t: Seen, out: &mut [u8]) -> Written
+fn write_containers(s: &[u8], t: Seen, out: &mut [u8]) -> Result<usize, Refusal>
     requires { Within s.now t × AllPackets s.now × (t.sum ≡ length (data_of s.now)) }
-    ensures { Wrote (from_judged s.now t (data_of s.now)) out.old (says_written result) out.new }
+    ensures { Wrote (from_judged s.now t (data_of s.now)) out.old (says_count result) out.new }
 {
-    let k = t.stage;
-    if !is_answered(k) {
-        return Written::Refused(layout::plain(crate::TRANSACTION));
+    if !is_answered(t.stage) {
+        return Err(layout::plain(crate::TRANSACTION));
     }
     if t.sum as u64 != t.total {
-        return Written::Refused(layout::plain(crate::FIELDS));
+        return Err(layout::plain(crate::FIELDS));
     }
     if !t.same {
-        return Written::Refused(layout::plain(layout::TID));
+        return Err(layout::plain(layout::TID));
     }
     if t.sum > 4294967283 {
-        return Written::Refused(layout::plain(layout::COUNT));
+        return Err(layout::plain(layout::COUNT));
     }
-    let params = t.params;
-    let results = t.results;
     if !put::has_room(
         out.len(),
         24,
-        params.count,
+        t.params.count,
         see::size_if(t.has, 12 + t.sum, 0),
-        results.count,
+        t.results.count,
     ) {
-        return Written::Refused(layout::plain(layout::ROOM));
+        return Err(layout::plain(layout::ROOM));
     }
-    Written::Done(put_containers(s, t, out))
+    Ok(put_containers(s, t, out))
 }
 
 // One transaction's packets as containers: data packets of any lengths join into one Data.
-pub fn from_network(s: &[u8], out: &mut [u8]) -> Written
-    ensures { Wrote (from_said s.now) out.old (says_written result) out.new }
+#[tactic(auto, using(crate::proofs::TranslatedLaws::from_seen))]
+pub fn from_network(s: &[u8], out: &mut [u8]) -> Result<usize, Refusal>
+    ensures { Wrote (from_said s.now) out.old (says_count result) out.new }
 {
-    match see::see_packets(s) {
-        Sight::Whole(t, _) => write_containers(s, t, out),
-        Sight::Refused(f) => Written::Refused(f),
-    }
+    let (t, _) = see::see_packets(s)?;
+    write_containers(s, t, out)
 }

@@ -16,6 +16,7 @@ use Rattle.wire.specs.Layout.{Text, string, Shaped, Val, str, Value}
 use Rattle.wire.specs.List.{next, end, stepped, step_at, says_step}
 use Rattle.wire.specs.Places.{Located, value_at}
 use Rattle.wire.specs.Worded.{Worded, Yields, ended, yields}
+use Rattle.std.specs.declared.option.Option.{Option}
 use Rattle.wire.specs.declared.list.Step.{Step}
 use Rattle.wire.proofs.laws.Formats.{value_format, own_word}
 use Rattle.panel.specs.Test.{val_discrete, decided, is_member}
@@ -96,7 +97,7 @@ module _ (t : ℕ) (s : List ℕ) where
     pub word : Worded (Value t) s (record { start = at; len = n - at }) first
     pub here : Here n left others
 
-  pub turn : (at left : ℕ) (vs : List Val) → Here at left vs → (q : Step) → says_step q ≡ step_at s t at left 0 → (x : Located) (n l : ℕ) → says_step q ≡ next x n l → Turn at vs n l
+  pub turn : (at left : ℕ) (vs : List Val) → Here at left vs → (q : Option Step) → says_step q ≡ step_at s t at left 0 → (x : Located) (n l : ℕ) → says_step q ≡ next x n l → Turn at vs n l
   turn at left vs h q p x n l f = go h.0 h.1 vs h.2
     where
       go : (r : Bor (List ℕ)) → r.now ≡ s → (vs : List Val) → Yields t s (rest r t at left) vs → Turn at vs n l
@@ -116,7 +117,7 @@ module _ (t : ℕ) (s : List ℕ) where
             here = (r, e, rw (till, left) (moved (rest r t (at + len) less) (refl, refl, refl, refl, refl)));
           }
 
-  pub over : (at left : ℕ) (vs : List Val) → Here at left vs → (q : Step) → says_step q ≡ step_at s t at left 0 → says_step q ≡ end → vs ≡ []
+  pub over : (at left : ℕ) (vs : List Val) → Here at left vs → (q : Option Step) → says_step q ≡ step_at s t at left 0 → says_step q ≡ end → vs ≡ []
   over at left vs h q p f = go h.0 h.1 vs h.2
     where
       go : (r : Bor (List ℕ)) → r.now ≡ s → (vs : List Val) → Yields t s (rest r t at left) vs → vs ≡ []
@@ -163,7 +164,7 @@ module _ (t : ℕ) (s chosen : List ℕ) (first count : ℕ) where
   abbrev pub Answers : Bool → Type 0
   Answers r = (vs : List Val) (v : Val) → Here t s first count vs → Value t loose chosen v → r ≡ is_member v vs
 
-  module _ (at left : ℕ) (seeks : Seeks at left) (q : Step) (p : says_step q ≡ step_at s t at left 0) where
+  module _ (at left : ℕ) (seeks : Seeks at left) (q : Option Step) (p : says_step q ≡ step_at s t at left 0) where
     pub none_left : says_step q ≡ end → Answers false
     unfolding is_member
     none_left f vs v h g =

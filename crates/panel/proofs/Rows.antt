@@ -13,7 +13,8 @@ use Rattle.wire.specs.Layout.{signed, Kind, sint, uint, wide, width, meaning, on
 use Rattle.wire.specs.List.{step_at, says_step}
 use Rattle.wire.specs.Places.{number_is, shape_at}
 use Rattle.wire.specs.Says.{located}
-use Rattle.wire.specs.declared.list.Step.TheVariants as step
+use Rattle.std.specs.declared.option.Option.TheVariants.{Some, None}
+use Rattle.wire.specs.declared.list.Step.{Step}
 use Rattle.wire.specs.declared.value.Value as declared
 use Rattle.wire.specs.declared.value.Value.TheVariants as values
 use Rattle.wire.proofs.laws.Formats.{own_word}
@@ -95,12 +96,13 @@ module _ (t : ℕ) (k : Kind) (is : shape t ≡ one k) (same : (n : ℕ) → loc
   one_turn at m vs h room =
       let n = number (take (width k) (drop at s)) in
       let less : suc m - 1 ≡ m = omega arith in
-      let p : says_step (step.Next (value_of k n) (at + width k) m) ≡ step_at s t at (suc m) 0 = rw (ne_eqb (suc m) 0 (λ e. omega arith), is, reads k s at room, less, same n) in
-      turn t s at (suc m) vs h (step.Next (value_of k n) (at + width k) m) p (located (value_of k n)) (at + width k) m refl
+      let q : Step = record { value = value_of k n; at = at + width k; left = m } in
+      let p : says_step (Some q) ≡ step_at s t at (suc m) 0 = rw (ne_eqb (suc m) 0 (λ e. omega arith), is, reads k s at room, less, same n) in
+      turn t s at (suc m) vs h (Some q) p (located (value_of k n)) (at + width k) m refl
 
   none_left : (at : ℕ) (vs : List Val) → Here t s at 0 vs → vs ≡ []
   unfolding step_at
-  none_left at vs h = over t s at 0 vs h step.End refl refl
+  none_left at vs h = over t s at 0 vs h None refl refl
 
   -- a word of the type is that of its number
   own : (u : List ℕ) (v : Val) → Value t loose u v → u ≡ bytes (width k) (number u)

@@ -1,6 +1,6 @@
 -- A row of numbers: what its words are by their bytes, and that a number is in it where it was met or is in what is left.
 -- Assumes nothing.
-use Rattle.std.proofs.Common.{◌≡◌, ℕ, zero, suc, ◌+◌, ◌-◌, ◌*◌, ◌^◌, ◌<◌, ◌≤◌, Bool, true, false, eqb, List, ◌∷◌, length, get_or, take, drop, refl, ap, ◌∙◌, not-suc-le-zero, arith, lit≤, drop-cons, drop-drop}
+use Rattle.std.proofs.Common.{◌≡◌, ℕ, zero, suc, ◌+◌, ◌-◌, ◌*◌, ◌^◌, ◌<◌, ◌≤◌, Bool, true, false, ◌||◌, eqb, List, ◌∷◌, length, get_or, take, drop, refl, ap, ◌∙◌, not-suc-le-zero, arith, lit≤, drop-cons, drop-drop}
 use Rattle.layout.specs.Answer.{pick}
 use Rattle.layout.specs.Bytes.{number, cells}
 use Rattle.panel.specs.Words.{Plain, one_byte, two_bytes, four_bytes, eight_bytes, is_in}
@@ -55,21 +55,24 @@ cells_step w zero l h = absurd (not-suc-le-zero h)
 cells_step w (suc n) l h = let e : suc n - 1 ≡ n = omega arith in rw e
 
 -- one word more
-pub met : (s : List ℕ) (o left w x : ℕ) (found : Bool) → 0 < left →
-    pick (pick found true (eqb (number (take w (drop o s))) x)) true (is_in x (cells w (left - 1) (drop (o + w) s))) ≡ pick found true (is_in x (cells w left (drop o s)))
+pub met : (s : List ℕ) (at n i w x : ℕ) (found : Bool) → i < n →
+    pick (found || eqb (number (take w (drop (at + i * w) s))) x) true (is_in x (cells w (n - (i + 1)) (drop (at + (i + 1) * w) s))) ≡ pick found true (is_in x (cells w (n - i) (drop (at + i * w) s)))
 unfolding is_in
-met s o left w x found h = rw (cells_step w left (drop o s) h, drop-drop w o s) (go found (eqb (number (take w (drop o s))) x))
+met s at n i w x found h =
+    let o : at + (i + 1) * w ≡ at + i * w + w = omega arith in
+    let m : n - (i + 1) ≡ n - i - 1 = omega arith in
+    rw (o, m, cells_step w (n - i) (drop (at + i * w) s) (omega arith), drop-drop w (at + i * w) s) (go found (eqb (number (take w (drop (at + i * w) s))) x))
   where
-    go : (f b : Bool) → pick (pick f true b) true (is_in x (cells w (left - 1) (drop (o + w) s))) ≡ pick f true (pick b true (is_in x (cells w (left - 1) (drop (o + w) s))))
+    go : (f b : Bool) → pick (f || b) true (is_in x (cells w (n - i - 1) (drop (at + i * w + w) s))) ≡ pick f true (pick b true (is_in x (cells w (n - i - 1) (drop (at + i * w + w) s))))
     go true b = refl
-    go false true = refl
-    go false false = refl
+    go false b = refl
 
-pub none_met : (s : List ℕ) (o left w x : ℕ) (found : Bool) → left ≤ 0 → pick found true (is_in x (cells w left (drop o s))) ≡ found
+-- no word is left
+pub all_met : (l : List ℕ) (left w x : ℕ) (found : Bool) → left ≡ 0 → pick found true (is_in x (cells w left l)) ≡ found
 unfolding is_in cells
-none_met s o zero w x true h = refl
-none_met s o zero w x false h = refl
-none_met s o (suc n) w x found h = absurd (not-suc-le-zero h)
+all_met l zero w x true h = refl
+all_met l zero w x false h = refl
+all_met l (suc n) w x found h = absurd (omega arith)
 
 -- ── the room of a product ──
 

@@ -14,6 +14,8 @@ use Rattle.layout.proofs.laws.Words.{self}
 use Rattle.layout.proofs.laws.Writing.{refusal}
 use Rattle.session.specs.Transaction.{with_data, Makes, says_made}
 use Rattle.session.specs.declared.transaction.Made.{Made}
+use Rattle.std.specs.declared.result.Result.{Result}
+use Rattle.layout.specs.declared.Refusal.{Refusal}
 use Rattle.session.specs.declared.transaction.Session.{Session}
 use Rattle.wire.specs.Codecs.{text, value}
 use Rattle.wire.specs.Layout.{Text, string, Val, Shaped, Value}
@@ -73,7 +75,7 @@ sent_as {x} {property} {w} {old} {new} {a} e f m = subst (λ q. Makes x q.code (
 -- ── the answer of the whole ──
 
 module _ (there : Bool) (d chosen : List ℕ) (t : ℕ) where
-  pub makes_chosen : {x : Session} {old : List ℕ} → Bytes chosen → (property n : ℕ) → got property n ≡ means (λ (c : Chosen). c.property) (chosen_in there d t chosen) → {r : Made} {new : List ℕ} → Sends x property t chosen old r new → Makes x 0x1016 (panel_said there d t chosen) old (says_made r) new
+  pub makes_chosen : {x : Session} {old : List ℕ} → Bytes chosen → (property n : ℕ) → got property n ≡ means (λ (c : Chosen). c.property) (chosen_in there d t chosen) → {r : Result Made Refusal} {new : List ℕ} → Sends x property t chosen old r new → Makes x 0x1016 (panel_said there d t chosen) old (says_made r) new
   unfolding sent
   makes_chosen {x} {old} h property n e {r} {new} s =
       let c = unmeant (λ (c : Chosen). c.property) (chosen_in there d t chosen) (sym e) in

@@ -15,11 +15,11 @@ use Rattle.session.specs.Calls.{command_of}
 use Rattle.session.specs.Payloads.{filling}
 use Rattle.session.specs.Transaction.{with_data, Makes, says_made}
 use Rattle.session.specs.declared.transaction.Made.{Made}
+use Rattle.std.specs.declared.result.Result.{Result}
+use Rattle.layout.specs.declared.Refusal.{Refusal}
 use Rattle.session.specs.declared.transaction.Session.{Session}
 use Rattle.panel.specs.Refusals.{TYPE, VALUE}
 use Rattle.panel.specs.Test.{allows}
-use Rattle.panel.specs.declared.Choice.{Choice}
-use Rattle.panel.specs.declared.Choice.TheVariants as choice
 
 -- ── what is read ──
 
@@ -109,10 +109,5 @@ weighed description x chosen =
     pick (allows (property_in description x).form v) (got x.property_code end) (refused (bare VALUE))
 
 -- what is written of chosen bytes that are a whole value
-pub record Sends (session : Session) (property type : ℕ) (chosen old : List ℕ) (r : Made) (new : List ℕ) : Type 0 where
+pub record Sends (session : Session) (property type : ℕ) (chosen old : List ℕ) (r : Result Made Refusal) (new : List ℕ) : Type 0 where
   pub sends : (v : Val) → Value type loose chosen v → Makes session 0x1016 (with_data (set_device_prop_value property) ((codec type).write v)) old (says_made r) new
-
--- this paper's values for each case of the code's own answer
-abbrev pub says_choice : Choice → Answer ℕ
-says_choice (choice.Taken property end) = got property end.at
-says_choice (choice.Refused t) = refused t

@@ -2,6 +2,7 @@
 // A value that the description does not allow is never sent. What is right is in specs/.
 #![tactic(auto)]
 
+ghost use Rattle.wire.specs.Read.{says_read};
 ghost use Rattle.std.specs.Prelude.{◌≡◌};
 ghost use Rattle.layout.specs.Answer.{means};
 ghost use Rattle.wire.specs.Layout.{shape};
@@ -10,7 +11,7 @@ ghost use Rattle.wire.specs.Property.{has_enable, says_form, info_from, property
 ghost use Rattle.wire.specs.Says.{located, says_value};
 ghost use Rattle.session.specs.Payloads.{filling};
 ghost use Rattle.session.specs.Transaction.{Makes, says_made};
-ghost use Rattle.panel.specs.Panel.{is_undef, TellsRange, TellsSuits, Suited, StandsAs, IsValue, weighed, Chosen, chosen_in, says_choice, Sends, panel_said};
+ghost use Rattle.panel.specs.Panel.{is_undef, TellsRange, TellsSuits, Suited, StandsAs, IsValue, weighed, Chosen, chosen_in, Sends, panel_said};
 ghost use Rattle.panel.specs.Test.{allows};
 ghost use Rattle.panel.specs.Words.{is_nothing};
 
@@ -18,10 +19,10 @@ mod member;
 mod range;
 mod scan;
 
-use layout::{Refusal, Written};
+use layout::Refusal;
 pub use range::word_of;
 use session::{Made, Session};
-use wire::{Cursor, Form, PropInfo, PropLayout, ReadProperty, ReadValue, Span, Value};
+use wire::{Cursor, Form, PropInfo, PropLayout, Read, Value};
 
 // The panel's own refusals: another type, UNDEF or no range of integers; and a value that is not allowed.
 pub const TYPE: u8 = 15;
@@ -31,13 +32,6 @@ pub const VALUE: u8 = 16;
 const SET_DEVICE_PROP_VALUE: u16 = 0x1016;
 
 pub(crate) const STR: u16 = 0xFFFF;
-
-// The property of a choice that is allowed, with the place after the chosen value.
-#[derive(Drop)]
-enum Choice {
-    Taken(u16, Cursor),
-    Refused(Refusal),
-}
 
 fn is_nothing(v: Value) -> bool
     ensures { result ≡ is_nothing (located v) }
@@ -57,10 +51,10 @@ fn is_undef(code: u16) -> bool
     ensures { result ≡ is_undef (shape code) }
 {
     let none: [u8; 0] = [];
-    match (Cursor { at: 0 }).value(&none, code) {
-        ReadValue::Got(v, _) => is_nothing(v),
-        ReadValue::Refused(_) => false,
-    }
+    let Ok((v, _)) = (Cursor { at: 0 }).value(&none, code) else {
+        return false;
+    };
+    is_nothing(v)
 }
 
 fn is_range(f: Form) -> bool
@@ -91,16 +85,12 @@ fn fitting(x: PropInfo, code: u16) -> bool
 }
 
 // The bytes as one value of the type: 3 where bytes follow.
-fn whole_value(chosen: &[u8], code: u16) -> ReadValue
+#[tactic(auto, unfolding(session::specs::Payloads::filling, layout::specs::Answer::after))]
+fn whole_value(chosen: &[u8], code: u16) -> Read<Value>
     ensures { says_value result ≡ filling (value_at code) chosen.now }
 {
-    match (Cursor { at: 0 }).value(chosen, code) {
-        ReadValue::Got(v, next) => match next.end(chosen) {
-            Span::Till(end) => ReadValue::Got(v, end),
-            Span::Refused(f) => ReadValue::Refused(f),
-        },
-        ReadValue::Refused(f) => ReadValue::Refused(f),
-    }
+    let (v, next) = (Cursor { at: 0 }).value(chosen, code)?;
+    Ok((v, next.end(chosen)?))
 }
 
 // Whether the description's form allows the value v that the chosen bytes are.
@@ -122,39 +112,36 @@ fn allowed(description: &[u8], x: PropInfo, chosen: &[u8], v: Value) -> bool
     }
 }
 
-fn weigh(description: &[u8], x: PropInfo, chosen: &[u8]) -> Choice
+#[tactic(auto, unfolding(crate::specs::Panel::weighed, crate::specs::Panel::value_of, layout::specs::Answer::means, layout::specs::Answer::after))]
+fn weigh(description: &[u8], x: PropInfo, chosen: &[u8]) -> Read<u16>
     requires { Suited description.now (info_from x) }
-    ensures { says_choice result ≡ weighed description.now (info_from x) chosen.now }
+    ensures { says_read result ≡ weighed description.now (info_from x) chosen.now }
 {
-    match whole_value(chosen, x.data_type) {
-        ReadValue::Got(v, end) => {
-            if allowed(description, x, chosen, v) {
-                Choice::Taken(x.property_code, end)
-            } else {
-                Choice::Refused(layout::plain(VALUE))
-            }
-        }
-        ReadValue::Refused(f) => Choice::Refused(f),
+    let (v, end) = whole_value(chosen, x.data_type)?;
+    if !allowed(description, x, chosen, v) {
+        return Err(layout::plain(VALUE));
     }
+    Ok((x.property_code, end))
 }
 
-fn choose(l: PropLayout, description: &[u8], code: u16, chosen: &[u8]) -> Choice
-    ensures { says_choice result ≡ means (λ (c : Chosen). c.property) (chosen_in (has_enable l) description.now code chosen.now) }
+fn choose(l: PropLayout, description: &[u8], code: u16, chosen: &[u8]) -> Read<u16>
+    ensures { says_read result ≡ means (λ (c : Chosen). c.property) (chosen_in (has_enable l) description.now code chosen.now) }
 {
-    match wire::property_info(l, description, Cursor { at: 0 }) {
-        ReadProperty::Got(x, _) => {
-            if fitting(x, code) {
-                weigh(description, x, chosen)
-            } else {
-                Choice::Refused(layout::plain(TYPE))
-            }
-        }
-        ReadProperty::Refused(f) => Choice::Refused(f),
+    let (x, _) = wire::property_info(l, description, Cursor { at: 0 })?;
+    if !fitting(x, code) {
+        return Err(layout::plain(TYPE));
     }
+    weigh(description, x, chosen)
 }
 
 // The command and its data. Of all values only a string can have another spelling than its tidy one, which takes 511 bytes at most.
-fn send(session: Session, property: u16, code: u16, chosen: &[u8], out: &mut [u8]) -> Made
+fn send(
+    session: Session,
+    property: u16,
+    code: u16,
+    chosen: &[u8],
+    out: &mut [u8],
+) -> Result<Made, Refusal>
     requires { IsValue code chosen.now }
     ensures { Sends session property code chosen.now out.old result out.new }
 {
@@ -164,10 +151,8 @@ fn send(session: Session, property: u16, code: u16, chosen: &[u8], out: &mut [u8
         return session::command_with_data(session, c, chosen, out);
     }
     let mut text = [0u8; 511];
-    match wire::tidy_value(code, chosen, &mut text) {
-        Written::Done(n) => session::command_with_data(session, c, &text[..n], out),
-        Written::Refused(f) => Made::Refused(f),
-    }
+    let n = wire::tidy_value(code, chosen, &mut text)?;
+    session::command_with_data(session, c, &text[..n], out)
 }
 
 // SetDevicePropValue of a value that the description allows, and its data behind it in one output.
@@ -178,11 +163,9 @@ pub fn set_value(
     code: u16,
     value: &[u8],
     out: &mut [u8],
-) -> Made
+) -> Result<Made, Refusal>
     ensures { Makes session 0x1016 (panel_said (has_enable l) description.now code value.now) out.old (says_made result) out.new }
 {
-    match choose(l, description, code, value) {
-        Choice::Taken(property, _) => send(session, property, code, value, out),
-        Choice::Refused(f) => Made::Refused(f),
-    }
+    let (property, _) = choose(l, description, code, value)?;
+    send(session, property, code, value, out)
 }

@@ -3,7 +3,6 @@ ghost use Rattle.std.specs.Prelude.{◌≡◌, true, false};
 ghost use Rattle.panel.specs.Words.{core_of, rest, Gives, Finds};
 
 use crate::{STR, scan};
-use wire::Step;
 
 // The bytes by which a value is compared: of a string the units before the last, else all of them.
 fn core<'a>(code: u16, word: &'a [u8]) -> &'a [u8]
@@ -17,22 +16,6 @@ fn core<'a>(code: u16, word: &'a [u8]) -> &'a [u8]
     }
     let end = word.len() - 2;
     &word[1..end]
-}
-
-fn same(a: &[u8], b: &[u8]) -> bool
-    ensures { (result ≡ true → a.now ≡ b.now) × (a.now ≡ b.now → result ≡ true) }
-{
-    if a.len() != b.len() {
-        return false;
-    }
-    let mut i = 0;
-    while i < a.len() {
-        if a[i] != b[i] {
-            return false;
-        }
-        i += 1;
-    }
-    true
 }
 
 // Whether one of the `count` values from a place on is the one that the chosen bytes are, a step at a time.
@@ -49,18 +32,14 @@ fn is_member_by_steps(
     let wanted = core(code, chosen);
     let mut at = first;
     let mut left = count;
-    loop {
-        match wire::step_at(description, code, at, left, 0) {
-            Step::Next(_, next, rest) => {
-                if same(core(code, &description[at..next]), wanted) {
-                    return true;
-                }
-                at = next;
-                left = rest;
-            }
-            Step::End => return false,
+    while let Some(step) = wire::step_at(description, code, at, left, 0) {
+        if core(code, &description[at..step.at]) == wanted {
+            return true;
         }
+        at = step.at;
+        left = step.left;
     }
+    false
 }
 
 // The same; numbers of up to 64 bits stand in a row, and are looked through as words.

@@ -5,7 +5,7 @@ ghost use Rattle.wire.specs.Places.{value_at};
 ghost use Rattle.wire.specs.Says.{located};
 ghost use Rattle.panel.specs.Words.{whole_of, whole_from, at_most, at_end, at_step, whole_range};
 
-use wire::{Cursor, ReadValue, Value};
+use wire::{Cursor, Value};
 
 // An integer: whether it is below 0, and its word of 64 bits, two's complement.
 #[derive(Clone, Copy)]
@@ -18,10 +18,7 @@ pub struct Whole {
 pub fn word_of(z: i64) -> u64
     ensures { result ≡ unsigned (2 ^ 64) z }
 {
-    if z < 0 {
-        return 0xFFFF_FFFF_FFFF_FFFF - ((-1 - z) as u64);
-    }
-    z as u64
+    z.cast_unsigned()
 }
 
 pub(crate) fn whole_of(v: Value) -> Whole
@@ -58,13 +55,13 @@ pub(crate) fn whole_of(v: Value) -> Whole
 pub(crate) fn whole_at(s: &[u8], code: u16, at: usize) -> Whole
     ensures { result ≡ whole_from (value_at code s.now at) }
 {
-    match (Cursor { at }).value(s, code) {
-        ReadValue::Got(v, _) => whole_of(v),
-        ReadValue::Refused(_) => Whole {
+    let Ok((v, _)) = (Cursor { at }).value(s, code) else {
+        return Whole {
             below: false,
             word: 0,
-        },
-    }
+        };
+    };
+    whole_of(v)
 }
 
 fn at_most(a: Whole, b: Whole) -> bool
@@ -90,7 +87,7 @@ fn at_end(low: Whole, high: Whole, v: Whole) -> bool
 fn span(low: Whole, v: Whole) -> u64
     ensures { result ≡ (v.word + (2 ^ 64 - low.word)) % 2 ^ 64 }
 {
-    std::num::wrapping_sub_u64(v.word, low.word)
+    v.word.wrapping_sub(low.word)
 }
 
 // A whole number of steps above the minimum; the ends where there is no step.

@@ -86,24 +86,14 @@ fn word(s: &[u8], at: usize, w: usize) -> u64
     eight_at(s, at)
 }
 
-fn either(a: bool, b: bool) -> bool
-    ensures { result ≡ pick a true b }
-{
-    if a { true } else { b }
-}
-
 // Whether one of n numbers of w bytes from a place on is x.
 fn has_word(s: &[u8], at: usize, n: usize, w: usize, x: u64) -> bool
     requires { Plain w × (n * w ≤ length s.now - at) }
     ensures { result ≡ is_in x (cells w n (drop at s.now)) }
 {
     let mut found = false;
-    let mut o = at;
-    let mut left = n;
-    while 0 < left {
-        found = either(found, word(s, o, w) == x);
-        o += w;
-        left -= 1;
+    for i in 0..n {
+        found |= word(s, at + i * w, w) == x;
     }
     found
 }

@@ -1,6 +1,8 @@
 -- What a copy comes to, beyond its promise: bytes and records add up; a recording without notes is its own copy; the copy is accepted from end to end and has
 -- the records of kinds 1 and 2; the copies of parts end to end are the copy of the whole. And what was written is no note.
 -- Assumes nothing.
+use Rattle.std.specs.Prelude.{Ok, Err}
+use Rattle.wire.specs.Read.{Read}
 use mathlib.Core.Path.{◌≡◌, refl, sym, ap, subst, ◌∙◌}
 use mathlib.Core.Bool.{Bool, true, false}
 use mathlib.Core.List.{List, [], ◌∷◌, ◌++◌, map, append_assoc, append-nil}
@@ -16,17 +18,17 @@ use Rattle.layout.proofs.laws.Accepted.{Accepts, accepted, accepts_after, accept
 use Rattle.layout.proofs.laws.Determined.{Tells, retracts}
 use Rattle.layout.proofs.laws.Numbers.{zero_one}
 use Rattle.wire.specs.Returned.{part_of}
+use Rattle.recording.specs.declared.Record as declared-record
 use Rattle.recording.specs.Content.{Content, Record}
 use Rattle.recording.specs.Content as content
 use Rattle.recording.specs.Record.{is_written, record_at, record_of, record_said, says_record}
 use Rattle.recording.specs.Returned.{Held, ReturnsRecord}
 use Rattle.recording.specs.Row.{row_from, row_of, whole_of}
 use Rattle.recording.specs.Copied.{bytes_in, kept_of, kept, written_in, AllWritten, copy_said, none, counted, left_by, left_out, copy_of, Copies, CopiesFront, says_copied, move_told, move, Alike, no_more, and_one, plus}
-use Rattle.recording.specs.declared.ReadRecord.{ReadRecord}
 use Rattle.recording.specs.declared.copy.Left.{Left}
 use Rattle.recording.specs.declared.copy.Front.{Front}
-use Rattle.recording.specs.declared.copy.Copied as declared
-use Rattle.recording.specs.declared.copy.Copied.TheVariants as copied
+use Rattle.layout.specs.declared.Refusal.{Refusal}
+use Rattle.std.specs.declared.result.Result.{Result}
 use Rattle.recording.proofs.laws.Fronted.{body_same, record_before}
 use Rattle.recording.proofs.Moved.{shifted, record_moved, rows_join}
 use Rattle.recording.proofs.Placed.{row_got, row_none, copied_adds, same_kept}
@@ -35,18 +37,18 @@ use Rattle.recording.proofs.ReadBack.{record_returns}
 
 -- ── one answer ──
 
-abbrev copied-from : Answer Left → declared.Copied
-copied-from (got l n) = copied.Done n l
-copied-from (refused t) = copied.Refused t
+abbrev copied-from : Answer Left → Result (ℕ × Left) Refusal
+copied-from (got l n) = Ok (n, l)
+copied-from (refused t) = Err t
 
-copied_back : (r : declared.Copied) → copied-from (says_copied r) ≡ r
-copied_back (copied.Done n l) = refl
-copied_back (copied.Refused t) = refl
+copied_back : (r : Result (ℕ × Left) Refusal) → copied-from (says_copied r) ≡ r
+copied_back (Ok (n, l)) = refl
+copied_back (Err t) = refl
 
 tells_copied : Tells says_copied
 tells_copied = retracts copied-from copied_back
 
-pub one_copied : (s old new new' : List ℕ) (x y : declared.Copied) → Copies s old (says_copied x) new → Copies s old (says_copied y) new' → (x ≡ y) × (new ≡ new')
+pub one_copied : (s old new new' : List ℕ) (x y : Result (ℕ × Left) Refusal) → Copies s old (says_copied x) new → Copies s old (says_copied y) new' → (x ≡ y) × (new ≡ new')
 one_copied s old new new' x y p q = (tells_copied x y (p.answers ∙ sym q.answers), p.leaves ∙ sym q.leaves)
 
 pub one_front : (s old new new' : List ℕ) (x y : Front) → CopiesFront s old x new → CopiesFront s old y new' → (x ≡ y) × (new ≡ new')
@@ -123,7 +125,7 @@ copied_same s xs n row all =
 -- ── what is written ──
 
 -- it is read back as that kind and body, and is no note
-pub written_read : (kind : ℕ) (body old new : List ℕ) (n : ℕ) → Wrote (record_said kind body) old (got tt n) new → (r : ReadRecord) → says_record r ≡ record_of new →
+pub written_read : (kind : ℕ) (body old new : List ℕ) (n : ℕ) → Wrote (record_said kind body) old (got tt n) new → (r : Read declared-record.Record) → says_record r ≡ record_of new →
     (b : ReturnsRecord kind body new n (says_record r)) × (b.found.content ≡ content.note → ⊥)
 written_read kind body old new n promised r e = let b = record_returns kind body old new n promised r e in (b, not_a_note b.found.content b.held)
   where

@@ -1,5 +1,6 @@
 -- Demand 3 of records and of the recording, of the functions' own answers: `r` is any answer that the reader's promise allows.
 -- Assumes nothing.
+use Rattle.wire.specs.Read.{Read, says_read}
 use mathlib.Core.Path.{◌≡◌, refl, ap, sym, subst, ◌∙◌}
 use mathlib.Core.Bool.{true}
 use mathlib.Core.Logic.{◌↔◌, inl, inr}
@@ -27,6 +28,7 @@ use Rattle.wire.specs.Layout as L
 use Rattle.wire.specs.Layout.{Box, Container}
 use Rattle.wire.specs.Returned.{part_of}
 use Rattle.wire.specs.declared.container.Container as declared
+use Rattle.recording.specs.declared.Record as declared-record
 use Rattle.wire.proofs.laws.Boxes.{box_said, said_box}
 use Rattle.wire.proofs.laws.Exactly.{exact_at}
 use Rattle.recording.specs.Codecs.{entry_in, record_parts, entry_word, entry}
@@ -35,10 +37,8 @@ use Rattle.recording.specs.Copied.{move_told}
 use Rattle.recording.specs.Layout.{Entry, holds, longest, Record, held, noted, Recording, none, one_more}
 use Rattle.recording.specs.Older.{AllRead}
 use Rattle.recording.specs.Record.{is_written, record_at, record_of, record_word, record_said, says_record}
-use Rattle.recording.specs.Recording.{says_recording, Follows, Stops, Typed, Writes, nothing, and_one, NoNotes}
+use Rattle.recording.specs.Recording.{Follows, Stops, Typed, Writes, nothing, and_one, NoNotes}
 use Rattle.recording.specs.Row.{records_in, row_of}
-use Rattle.recording.specs.declared.ReadRecord.{ReadRecord}
-use Rattle.recording.specs.declared.row.ReadRecording.{ReadRecording}
 use Rattle.recording.proofs.ReadBack.{due}
 use Rattle.recording.proofs.Recorded.{said_bytes}
 use Rattle.recording.proofs.Records.{content_there, record_format, record-parts, records_single}
@@ -78,10 +78,10 @@ word_back (held kind low high small g) k b is = let same : k ≡ kind = cc in rw
 
 module _ (s : List ℕ) (h : Bytes s) where
   -- at any place: accepted exactly when a word stands there, with its reading and its length, and every part lies in it
-  pub record_exact_at : (at : ℕ) (r : ReadRecord) → says_record r ≡ record_at s at → ExactAt Record (entry_in s) record_parts s at (says_record r)
+  pub record_exact_at : (at : ℕ) (r : Read declared-record.Record) → says_record r ≡ record_at s at → ExactAt Record (entry_in s) record_parts s at (says_record r)
   record_exact_at at r promised = exact_at record_format entries s h at (says_record r) promised
 
-  module _ (r : ReadRecord) (promised : says_record r ≡ record_of s) where
+  module _ (r : Read declared-record.Record) (promised : says_record r ≡ record_of s) where
     pub record_exact : Exact Record (entry_in s) s (says_record r)
     record_exact = reads_exactly record_format entries s h (says_record r) promised
 
@@ -162,30 +162,30 @@ recording_back {s} {es} r all w = (λ p. same_bytes (recording_written p) r, λ 
 
 -- ── of `read_recording`'s own answer ──
 
-module _ (s : List ℕ) (h : Bytes s) (r : ReadRecording) (promised : says_recording r ≡ means length (row_of s)) where
-  row_read : {k n : ℕ} → says_recording r ≡ got k n → (xs : List content.Record) × (row_of s ≡ got xs n) × (length xs ≡ k)
+module _ (s : List ℕ) (h : Bytes s) (r : (Read ℕ)) (promised : says_read r ≡ means length (row_of s)) where
+  row_read : {k n : ℕ} → says_read r ≡ got k n → (xs : List content.Record) × (row_of s ≡ got xs n) × (length xs ≡ k)
   row_read e = unmeant length (row_of s) (sym promised ∙ e)
 
   -- accepted exactly when the bytes are a recording, with the number of its records and the place after the last
-  pub recording_counts : (k n : ℕ) → (says_recording r ≡ got k n) ↔ ((es : List Entry) × Recording loose s es × (k ≡ length es) × (n ≡ length s))
+  pub recording_counts : (k n : ℕ) → (says_read r ≡ got k n) ↔ ((es : List Entry) × Recording loose s es × (k ≡ length es) × (n ≡ length s))
   unfolding means
   recording_counts k n = (
     λ e. let (xs, row, count) = row_read e in (map (entry_in s) xs, recording_sound s h row, sym count ∙ sym (length-map xs (entry_in s)), row_end s row),
     λ p. counted p.0 p.1 p.2 p.3,
   )
     where
-      counted : (es : List Entry) → Recording loose s es → k ≡ length es → n ≡ length s → says_recording r ≡ got k n
+      counted : (es : List Entry) → Recording loose s es → k ≡ length es → n ≡ length s → says_read r ≡ got k n
       counted es all count end =
           let (xs, row, are) = recording_complete s all in
           let same : length xs ≡ k = sym (length-map xs (entry_in s)) ∙ ap length are ∙ sym count in
           promised ∙ ap (means length) row ∙ rw (same, end)
 
   -- as many as `read_record_at` reads one after the other, from the first place to the end, with their parts inside; and they are the recording's
-  pub recording_inside : (k n : ℕ) → says_recording r ≡ got k n → (xs : List content.Record) × (length xs ≡ k) × Follows s 0 xs n × Recording loose s (map (entry_in s) xs)
+  pub recording_inside : (k n : ℕ) → says_read r ≡ got k n → (xs : List content.Record) × (length xs ≡ k) × Follows s 0 xs n × Recording loose s (map (entry_in s) xs)
   recording_inside k n e = let (xs, row, count) = row_read e in (xs, count, follows s row, recording_sound s h row)
 
   -- refused exactly as the first record that is refused, which stands behind a recording
-  pub refused_first : (t : Told) → (says_recording r ≡ refused t) ↔ Stops s t
+  pub refused_first : (t : Told) → (says_read r ≡ refused t) ↔ Stops s t
   unfolding means
   refused_first t = (
     λ e. row_stops s h (refused_meant length (row_of s) (sym promised ∙ e)),
@@ -193,7 +193,7 @@ module _ (s : List ℕ) (h : Bytes s) (r : ReadRecording) (promised : says_recor
   )
 
   -- so a refusal has a place exactly where it is 1
-  pub recording_placed : (t : Told) → says_recording r ≡ refused t → (t.placed ≡ true) ↔ (t.no ≡ END)
+  pub recording_placed : (t : Told) → says_read r ≡ refused t → (t.placed ≡ true) ↔ (t.no ≡ END)
   unfolding move_told
   recording_placed t e =
       let exactly = (recording_told s r promised).0.exactly t e in

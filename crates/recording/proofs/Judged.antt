@@ -1,6 +1,7 @@
 -- What `read_record` answers, said with no reader: it meets specs/Refused, which determines the answer. A field is there or it is not; then its test holds
 -- or it does not; and the body's container is judged as every container is.
 -- Assumes nothing.
+use Rattle.wire.specs.Read.{Read}
 use mathlib.Core.Path.{◌≡◌, refl, ◌∙◌}
 use mathlib.Core.Bool.{Bool, true, false}
 use mathlib.Core.Logic.{◌⊎◌, inl, inr}
@@ -24,8 +25,8 @@ use Rattle.recording.specs.Record.{limit, is_kind, begins, content_at, body_at, 
 use Rattle.recording.specs.Refused.{HeadTests, body_in, record_in, FilledSays, ContentSays, RecordSays}
 use Rattle.recording.specs.declared.Head.{Head}
 use Rattle.recording.specs.Content as content
+use Rattle.recording.specs.declared.Record as declared-record
 use Rattle.recording.specs.Content.{Record}
-use Rattle.recording.specs.declared.ReadRecord.{ReadRecord}
 
 -- ── tests of a record ──
 
@@ -148,7 +149,7 @@ record_judged s = beyond_head s _ rest (head_of s) (head_judged s)
 
 -- ── of the functions' own answers; and no other answer is said of the same bytes ──
 
-pub record_says : (s : List ℕ) (r : ReadRecord) → says_record r ≡ record_of s → RecordSays s (says_record r)
+pub record_says : (s : List ℕ) (r : Read declared-record.Record) → says_record r ≡ record_of s → RecordSays s (says_record r)
 record_says s r promised = rw promised (record_judged s)
 
 pub record_one : (s : List ℕ) (x y : Answer Record) → RecordSays s x → RecordSays s y → x ≡ y

@@ -1,6 +1,7 @@
 -- What bytes that follow do to the answer of `read_record`: nothing where the record is not cut, which is what `is_cut` tells; where it is, the answer is 1, and zeros enough after the bytes make every record
 -- whole, or refused for good.
 -- Assumes nothing.
+use Rattle.wire.specs.Read.{Read}
 use mathlib.Core.Path.{◌≡◌, refl, sym, ap, ◌∙◌}
 use mathlib.Core.Bool.{Bool, false}
 use mathlib.Core.Logic.{◌⊎◌, inl, inr}
@@ -21,7 +22,7 @@ use Rattle.recording.specs.Record.{limit, record_of, says_record}
 use Rattle.recording.specs.Refused.{RecordSays, Cut, in_front, in_body, CutSays}
 use Rattle.recording.specs.Row.{is_end, is_cut}
 use Rattle.recording.specs.declared.Head.{Head}
-use Rattle.recording.specs.declared.ReadRecord.{ReadRecord}
+use Rattle.recording.specs.declared.Record as declared-record
 use Rattle.recording.specs.Content.{Record}
 use Rattle.recording.proofs.Judged.{HeadSays, head_judged, record_says}
 use Rattle.layout.proofs.laws.Told.{end_no, bare_no}
@@ -72,12 +73,12 @@ cut_ends s x (in_body _ l low high small h) (fails n₁ (fails n₂ (fails n₃ 
 cut_ends s x (in_body _ l low high small h) (fails n₁ (fails n₂ (fails n₃ (fails n₄ (holds b))))) = (6, refl)
 cut_ends s x (in_body _ l low high small h) (fails n₁ (fails n₂ (fails n₃ (fails n₄ (fails n₅ r))))) = absurd (n₅ h)
 
-pub cut_refused : (s : List ℕ) → Cut s → (r : ReadRecord) → says_record r ≡ record_of s → Ends (says_record r)
+pub cut_refused : (s : List ℕ) → Cut s → (r : Read declared-record.Record) → says_record r ≡ record_of s → Ends (says_record r)
 cut_refused s c r promised = cut_ends s (says_record r) c (record_says s r promised)
 
 -- ── what stays ──
 
-pub record_lasts : (s t : List ℕ) → (Cut s → ⊥) → (r r' : ReadRecord) → says_record r ≡ record_of s → says_record r' ≡ record_of (s ++ t) → says_record r ≡ says_record r'
+pub record_lasts : (s t : List ℕ) → (Cut s → ⊥) → (r r' : Read declared-record.Record) → says_record r ≡ record_of s → says_record r' ≡ record_of (s ++ t) → says_record r ≡ says_record r'
 record_lasts s t uncut r r' e f = e ∙ sym (f ∙ uncut_same s t (cut_one s (is_cut s) false (cut_judged s) (fails uncut otherwise)))
 
 -- ── what can be carried on ──

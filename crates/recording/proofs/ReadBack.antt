@@ -1,6 +1,7 @@
 -- What `write_record` writes, `read_record` reads back, and it is no note. Of the bytes of a record that was written no test of specs/Refused holds: not the record's own, by its two numbers, and
 -- not the container's, for none held when the writer tried the body, and where the body stands changes none of them.
 -- Assumes nothing.
+use Rattle.wire.specs.Read.{Read}
 use mathlib.Core.Path.{◌≡◌, refl, sym, ap, ◌∙◌}
 use mathlib.Core.Bool.{Bool, true, false}
 use mathlib.Core.Logic.{◌⊎◌, inl, inr}
@@ -29,9 +30,9 @@ use Rattle.wire.proofs.laws.ReadBack as wire
 use Rattle.recording.specs.Record.{limit, is_written, content_at, record_of, record_word, record_said, says_record}
 use Rattle.recording.specs.Refused.{body_in, record_in, ContentSays, RecordSays}
 use Rattle.recording.specs.Returned.{Held, a_container, ReturnsRecord, ReturnsContainer}
+use Rattle.recording.specs.declared.Record as declared-record
 use Rattle.recording.specs.Content.{Content, Record}
 use Rattle.recording.specs.Content as content
-use Rattle.recording.specs.declared.ReadRecord.{ReadRecord}
 use Rattle.recording.proofs.Judged.{record_judged, record_one}
 use Rattle.recording.proofs.Recorded.{record_length}
 
@@ -177,7 +178,7 @@ module _ (kind : ℕ) (body behind : List ℕ) (low : 1 ≤ kind) (high : kind �
 
 -- ── of the functions' own answers ──
 
-pub record_returns : (kind : ℕ) (body old new : List ℕ) (n : ℕ) → Wrote (record_said kind body) old (got tt n) new → (r : ReadRecord) → says_record r ≡ record_of new → ReturnsRecord kind body new n (says_record r)
+pub record_returns : (kind : ℕ) (body old new : List ℕ) (n : ℕ) → Wrote (record_said kind body) old (got tt n) new → (r : Read declared-record.Record) → says_record r ≡ record_of new → ReturnsRecord kind body new n (says_record r)
 unfolding word
 record_returns kind body old new n promised r e =
     let w = whole promised in
@@ -219,7 +220,7 @@ module _ (kind code tid : ℕ) (payload old written : List ℕ) (m : ℕ) (Code-
       ∙ wire.payload_there kind code tid payload [] was_due.known Code-fits tid_fits was_due.small box 0 box_stands
 
   pub container_recorded : (way : ℕ) (old' new : List ℕ) (n : ℕ) → Wrote (record_said way (take m written)) old' (got tt n) new →
-      (r : ReadRecord) → says_record r ≡ record_of new → ReturnsContainer way kind code tid payload new n (says_record r)
+      (r : Read declared-record.Record) → says_record r ≡ record_of new → ReturnsContainer way kind code tid payload new n (says_record r)
   unfolding box
   container_recorded way old' new n recorded r e =
       let b = record_returns way (take m written) old' new n recorded r e in

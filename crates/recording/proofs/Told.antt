@@ -1,6 +1,8 @@
 -- Which refusals of a record's reader, and of a recording's, have a place: 1 and no other, and the place lies in the bytes that were lent, counted from their start.
 -- The body's bytes are a front of the record's, so a place in them is one in the record.
 -- Assumes nothing.
+use Rattle.recording.specs.declared.Record as declared-record
+use Rattle.wire.specs.Read.{Read, says_read}
 use mathlib.Core.Path.{◌≡◌, ap, sym, ◌∙◌}
 use mathlib.Core.List.{List}
 use Prim.Native.Nat.{ℕ, zero, suc, ◌+◌, ◌-◌, ◌≤◌, ◌<◌}
@@ -18,14 +20,10 @@ use Rattle.layout.proofs.laws.Numbers.{zero_one}
 use Rattle.wire.specs.Tests.{◌gives◌else◌, holds, fails, Otherwise, otherwise}
 use Rattle.wire.proofs.laws.Told.{container_telling}
 use Rattle.recording.specs.Content.{Record}
-use Rattle.recording.specs.Record.{limit, begins, content_at, body_at, head_at, head_of, record_at, record_of, says_head, says_record}
-use Rattle.recording.specs.Recording.{says_recording}
+use Rattle.recording.specs.Record.{limit, begins, content_at, body_at, head_at, head_of, record_at, record_of, says_record}
 use Rattle.recording.specs.Refused.{RecordSays}
 use Rattle.recording.specs.Row.{row_from, row_of}
 use Rattle.recording.specs.declared.Head.{Head}
-use Rattle.recording.specs.declared.ReadHead.{ReadHead}
-use Rattle.recording.specs.declared.ReadRecord.{ReadRecord}
-use Rattle.recording.specs.declared.row.ReadRecording.{ReadRecording}
 use Rattle.recording.proofs.laws.Rowed.{head_placed}
 
 module _ {P : ℕ → Type 0} (s : List ℕ) (closed : Closed P s) where
@@ -95,12 +93,12 @@ never_2 s two is =
 -- ── of the functions' own answers ──
 
 module _ (s : List ℕ) where
-  pub head_told : (r : ReadHead) → says_head r ≡ head_of s → PlacedExactly (says_head r) × Inside (length s) (says_head r)
+  pub head_told : (r : Read Head) → says_read r ≡ head_of s → PlacedExactly (says_read r) × Inside (length s) (says_read r)
   head_told r promised = told_from_0 s promised λ P c h. head_telling s c 0 h
 
-  pub record_told : (r : ReadRecord) → says_record r ≡ record_of s → PlacedExactly (says_record r) × Inside (length s) (says_record r)
+  pub record_told : (r : Read declared-record.Record) → says_record r ≡ record_of s → PlacedExactly (says_record r) × Inside (length s) (says_record r)
   record_told r promised = told_from_0 s promised λ P c h. record_telling s c 0 h
 
-  pub recording_told : (r : ReadRecording) → says_recording r ≡ means length (row_of s) → PlacedExactly (says_recording r) × Inside (length s) (says_recording r)
+  pub recording_told : (r : (Read ℕ)) → says_read r ≡ means length (row_of s) → PlacedExactly (says_read r) × Inside (length s) (says_read r)
   unfolding row_of
   recording_told r promised = told_from_0 s promised λ P c h. telling_means length (row_telling s c (length s) 0 h)

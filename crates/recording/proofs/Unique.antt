@@ -1,5 +1,9 @@
 -- What the answers of `recording` say determines them; so each promise allows one answer.
 -- Assumes nothing.
+use Rattle.wire.proofs.laws.Unique.{tells_read}
+use Rattle.std.specs.Prelude.{Ok, Err}
+use Rattle.wire.specs.Read.{Read, says_read}
+use Rattle.recording.specs.declared.Record.{Record}
 use mathlib.Core.Path.{◌≡◌, refl, sym, ap, ◌∙◌}
 use mathlib.Core.Bool.{Bool, true, false}
 use mathlib.Core.List.{List}
@@ -9,47 +13,35 @@ use Rattle.layout.proofs.laws.Determined.{Tells, retracts}
 use Rattle.recording.specs.Content.{Content}
 use Rattle.recording.specs.Content as content
 use Rattle.recording.specs.Record.{says_content, says_record}
-use Rattle.recording.specs.declared.Content as declared
-use Rattle.recording.specs.declared.Content.TheVariants as variants
-use Rattle.recording.specs.declared.ReadRecord.{ReadRecord}
-use Rattle.recording.specs.declared.ReadRecord.TheVariants as readRecord
-use Rattle.recording.specs.Recording.{says_recording}
-use Rattle.recording.specs.declared.row.ReadRecording.{ReadRecording}
-use Rattle.recording.specs.declared.row.ReadRecording.TheVariants as readRecording
+use Rattle.std.specs.declared.option.Option as declared
+use Rattle.std.specs.declared.option.Option.TheVariants.{Some, None}
+use Rattle.wire.specs.declared.container.Container.{Container}
 use Rattle.recording.specs.Row.{says_front, may_change, Finds}
 use Rattle.recording.specs.declared.ReadFront.{ReadFront}
 use Rattle.recording.specs.declared.ReadFront.TheVariants as readFront
 
-abbrev content_from : Content → declared.Content
-content_from content.note = variants.Note
-content_from (content.holds x) = variants.Holds x
+abbrev content_from : Content → declared.Option Container
+content_from content.note = None
+content_from (content.holds x) = Some x
 
-content_back : (c : declared.Content) → content_from (says_content c) ≡ c
-content_back variants.Note = refl
-content_back (variants.Holds x) = refl
+content_back : (c : declared.Option Container) → content_from (says_content c) ≡ c
+content_back None = refl
+content_back (Some x) = refl
 
-abbrev record-from : Answer content.Record → ReadRecord
-record-from (got x n) = readRecord.Got (record { kind = x.kind; body = x.body; content = content_from x.content }) (record { at = n })
-record-from (refused t) = readRecord.Refused t
+abbrev record-from : Answer content.Record → Read Record
+record-from (got x n) = Ok ((record { kind = x.kind; body = x.body; content = content_from x.content }), (record { at = n }))
+record-from (refused t) = Err t
 
-record_back : (r : ReadRecord) → record-from (says_record r) ≡ r
-record_back (readRecord.Got x c) = ap (λ d. readRecord.Got (record { kind = x.kind; body = x.body; content = d }) c) (content_back x.content)
-record_back (readRecord.Refused t) = refl
+record_back : (r : Read Record) → record-from (says_record r) ≡ r
+record_back (Ok (x, c)) = ap (λ d. Ok ((record { kind = x.kind; body = x.body; content = d }), c)) (content_back x.content)
+record_back (Err t) = refl
 
 pub tells_record : Tells says_record
 tells_record = retracts record-from record_back
 
 -- of a recording
-abbrev recording_from : Answer ℕ → ReadRecording
-recording_from (got k n) = readRecording.Got k (record { at = n })
-recording_from (refused t) = readRecording.Refused t
-
-recording_back : (r : ReadRecording) → recording_from (says_recording r) ≡ r
-recording_back (readRecording.Got k c) = refl
-recording_back (readRecording.Refused t) = refl
-
-pub tells_recording : Tells says_recording
-tells_recording = retracts recording_from recording_back
+pub tells_recording : Tells (says_read {A = ℕ})
+tells_recording = tells_read
 
 -- of bytes that others may follow
 abbrev front_from : Answer content.Record → Bool → ReadFront

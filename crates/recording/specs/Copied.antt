@@ -1,5 +1,8 @@
 -- A recording copied without its notes: the records of kinds 1 and 2 byte for byte, in order, and what was left out.
 -- Assumes nothing.
+use Rattle.std.specs.Prelude.{Ok, Err}
+use Rattle.std.specs.declared.result.Result.{Result}
+use Rattle.layout.specs.declared.Refusal.{Refusal}
 use Rattle.std.specs.Prelude.{◌≡◌, true, List, [], ◌∷◌, ◌++◌, ℕ, ◌+◌, ◌-◌, take, drop}
 use Rattle.layout.specs.Answer.{Told, Answer, got, refused, pick, after, means}
 use Rattle.layout.specs.Written.{Said, said_of, spelling, answer_of, left_of}
@@ -11,11 +14,7 @@ use Rattle.recording.specs.Record.{is_written}
 use Rattle.recording.specs.Row.{row_of, whole_of}
 use Rattle.recording.specs.declared.copy.Left.{Left}
 use Rattle.recording.specs.declared.copy.Front.{Front}
-use Rattle.recording.specs.declared.copy.Stop.{Stop}
-use Rattle.recording.specs.declared.copy.Stop.TheVariants as stop
 use Rattle.recording.specs.declared.copy.Swept.{Swept}
-use Rattle.recording.specs.declared.copy.Copied.{Copied}
-use Rattle.recording.specs.declared.copy.Copied.TheVariants as copied
 
 -- ── what is copied ──
 
@@ -73,13 +72,13 @@ pub record Copies (s old : List ℕ) (answer : Answer Left) (new : List ℕ) : T
 
 -- ── this paper's values for each case ──
 
-abbrev pub says_stop : Left → ℕ → Stop → Answer Left
-says_stop l n stop.End = got l n
-says_stop l n (stop.Refused t) = refused t
+abbrev pub says_stop : Left → ℕ → Result (Unit {0}) Refusal → Answer Left
+says_stop l n (Ok _) = got l n
+says_stop l n (Err t) = refused t
 
-abbrev pub says_copied : Copied → Answer Left
-says_copied (copied.Done n l) = got l n
-says_copied (copied.Refused t) = refused t
+abbrev pub says_copied : (Result (ℕ × Left) Refusal) → Answer Left
+says_copied (Ok (n, l)) = got l n
+says_copied (Err t) = refused t
 
 -- ── the records at the front that are accepted ──
 

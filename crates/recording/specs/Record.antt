@@ -1,6 +1,8 @@
 -- One record of a recording: u32 length of the whole record, u16 kind, body. Kinds 1 and 2: a container from the camera, and to it; 3: a note, which
 -- is read and no more written.
 -- Assumes nothing.
+use Rattle.std.specs.Prelude.{Ok, Err}
+use Rattle.wire.specs.Read.{Read}
 use Rattle.std.specs.Prelude.{Bool, false, List, ◌++◌, ℕ, ◌+◌, ◌-◌, leb, eqb, length, take}
 use Rattle.layout.specs.Answer.{Answer, got, refused, Reader, pick, after, means, bare, span_at}
 use Rattle.layout.specs.Bytes.{bytes}
@@ -8,18 +10,13 @@ use Rattle.layout.specs.Written.{Said, no, said_of}
 use Rattle.layout.specs.Refusals.{TRAIL, RECORD, LONG}
 use Rattle.wire.specs.Places.{num_at}
 use Rattle.wire.specs.Container.{container_at}
+use Rattle.wire.specs.declared.container.Container.{Container}
 use Rattle.recording.specs.Content.{Content, Record}
 use Rattle.recording.specs.Content as content
-use Rattle.recording.specs.declared.Content as declared
-use Rattle.recording.specs.declared.Content.TheVariants as variants
+use Rattle.std.specs.declared.option.Option as declared
+use Rattle.std.specs.declared.option.Option.TheVariants.{Some, None}
 use Rattle.recording.specs.declared.Record as declared-record
 use Rattle.recording.specs.declared.Head.{Head}
-use Rattle.recording.specs.declared.ReadHead.{ReadHead}
-use Rattle.recording.specs.declared.ReadHead.TheVariants as read_head
-use Rattle.recording.specs.declared.ReadContent.{ReadContent}
-use Rattle.recording.specs.declared.ReadContent.TheVariants as readContent
-use Rattle.recording.specs.declared.ReadRecord.{ReadRecord}
-use Rattle.recording.specs.declared.ReadRecord.TheVariants as readRecord
 
 -- the longest body
 abbrev pub limit : ℕ
@@ -88,21 +85,17 @@ record_said kind body =
 
 -- ── this paper's values for each case ──
 
-abbrev pub says_content : declared.Content → Content
-says_content variants.Note = content.note
-says_content (variants.Holds x) = content.holds x
+abbrev pub says_content : declared.Option Container → Content
+says_content None = content.note
+says_content (Some x) = content.holds x
 
-abbrev pub says_read_content : ReadContent → Answer Content
-says_read_content (readContent.Got x c) = got (says_content x) c.at
-says_read_content (readContent.Refused t) = refused t
-
-abbrev pub says_head : ReadHead → Answer Head
-says_head (read_head.Got h c) = got h c.at
-says_head (read_head.Refused t) = refused t
+abbrev pub says_read_content : Read (declared.Option Container) → Answer Content
+says_read_content (Ok (x, c)) = got (says_content x) c.at
+says_read_content (Err t) = refused t
 
 abbrev pub record_from : declared-record.Record → Record
 record_from x = record { kind = x.kind; body = x.body; content = says_content x.content }
 
-abbrev pub says_record : ReadRecord → Answer Record
-says_record (readRecord.Got x c) = got (record_from x) c.at
-says_record (readRecord.Refused t) = refused t
+abbrev pub says_record : Read declared-record.Record → Answer Record
+says_record (Ok (x, c)) = got (record_from x) c.at
+says_record (Err t) = refused t

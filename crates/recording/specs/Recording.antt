@@ -1,5 +1,7 @@
 -- What `read_recording` answers; and what can be said of the records of a recording, one after the other.
 -- Assumes nothing.
+use Rattle.std.specs.Prelude.{Ok, Err}
+use Rattle.wire.specs.Read.{Read}
 use Rattle.std.specs.Prelude.{◌≡◌, List, [], ◌∷◌, ◌++◌, ℕ, ◌^◌, ◌<◌, length, take, drop}
 use Rattle.layout.specs.Answer.{Told, Answer, got, refused}
 use Rattle.layout.specs.Bytes.{Bytes}
@@ -14,13 +16,6 @@ use Rattle.recording.specs.Copied.{move_told}
 use Rattle.recording.specs.Layout.{Entry, holds, note, Recording}
 use Rattle.recording.specs.Record.{record_at, record_said}
 use Rattle.recording.specs.Refused.{RecordSays}
-use Rattle.recording.specs.declared.row.ReadRecording.{ReadRecording}
-use Rattle.recording.specs.declared.row.ReadRecording.TheVariants as readRecording
-
--- how many records, and the place after the last; or the refusal
-abbrev pub says_recording : ReadRecording → Answer ℕ
-says_recording (readRecording.Got n c) = got n c.at
-says_recording (readRecording.Refused t) = refused t
 
 -- ── as `read_record_at` reads them ──
 

@@ -6,7 +6,6 @@ ghost use Rattle.recording.specs.Record.{is_written};
 ghost use Rattle.recording.specs.Row.{whole_of};
 ghost use Rattle.recording.specs.Copied.{kept, counted, left_out, Sweeps, Copies, CopiesFront, says_copied};
 
-use crate::{ReadHead, ReadRecord};
 use layout::Refusal;
 use wire::Cursor;
 
@@ -17,33 +16,19 @@ pub struct Left {
     pub bytes: usize,
 }
 
-// Why a sweep ended: with the bytes, or at a record that is refused.
-#[derive(Drop)]
-enum Stop {
-    End,
-    Refused(Refusal),
-}
-
 // The records at the front that are accepted: where they end, and what a copy leaves out of them; and why there are no more.
 #[derive(Drop)]
 struct Swept {
     end: usize,
     left: Left,
-    stop: Stop,
-}
-
-// How many bytes were written, and what was left out; or why nothing was written.
-#[derive(Drop)]
-pub enum Copied {
-    Done(usize, Left),
-    Refused(Refusal),
+    stop: Result<(), Refusal>,
 }
 
 // The whole records at the front, so many bytes, and what became of their copy.
 #[derive(Drop)]
 pub struct Front {
     pub used: usize,
-    pub copied: Copied,
+    pub copied: Result<(usize, Left), Refusal>,
 }
 
 // One record more.
@@ -68,17 +53,18 @@ fn sweep(s: &[u8]) -> Swept
         records: 0,
         bytes: 0,
     };
+    // No range: each record says itself where the next one starts.
     while at < s.len() {
         match crate::read_record_at(s, Cursor { at }) {
-            ReadRecord::Got(x, next) => {
+            Ok((x, next)) => {
                 left = count(left, x.kind, x.body.count);
                 at = next.at;
             }
-            ReadRecord::Refused(f) => {
+            Err(f) => {
                 return Swept {
                     end: at,
                     left,
-                    stop: Stop::Refused(f),
+                    stop: Err(f),
                 };
             }
         }
@@ -86,7 +72,7 @@ fn sweep(s: &[u8]) -> Swept
     Swept {
         end: at,
         left,
-        stop: Stop::End,
+        stop: Ok(()),
     }
 }
 
@@ -113,49 +99,42 @@ fn put_copied(s: &[u8], out: &mut [u8]) -> usize
 {
     let mut at = 0;
     let mut o = 0;
+    // No range: each record says itself where the next one starts.
     while at < s.len() {
-        match crate::read_head(s, at) {
-            ReadHead::Got(h, next) => {
-                o = put_kept(h.kind, s, at, 6 + h.body.count, out, o);
-                at = next.at;
-            }
-            ReadHead::Refused(_) => {
-                return o;
-            }
-        }
+        let Ok((h, next)) = crate::read_head(s, at) else {
+            return o;
+        };
+        o = put_kept(h.kind, s, at, 6 + h.body.count, out, o);
+        at = next.at;
     }
     o
 }
 
 // Of records that are all accepted, of which so much is left out.
-fn copy_swept(s: &[u8], left: Left, out: &mut [u8]) -> Copied
+fn copy_swept(s: &[u8], left: Left, out: &mut [u8]) -> Result<(usize, Left), Refusal>
     requires { left_out s.now ≡ got left (length s.now) }
     ensures { Copies s.now out.old (says_copied result) out.new }
 {
     let need = s.len() - left.bytes;
     if out.len() < need {
-        return Copied::Refused(layout::plain(layout::ROOM));
+        return Err(layout::plain(layout::ROOM));
     }
     // without a note the copy is the recording as it is
     if left.bytes == 0 {
         let all = layout::copy(s, 0, s.len(), out, 0);
-        return Copied::Done(all, left);
+        return Ok((all, left));
     }
     let n = put_copied(s, out);
-    Copied::Done(n, left)
+    Ok((n, left))
 }
 
 // Copies the recording to the front of the part lent to it.
-pub fn copy_records(s: &[u8], out: &mut [u8]) -> Copied
+pub fn copy_records(s: &[u8], out: &mut [u8]) -> Result<(usize, Left), Refusal>
     ensures { Copies s.now out.old (says_copied result) out.new }
 {
     let swept = sweep(s);
-    let left = swept.left;
-    let stop = swept.stop;
-    match stop {
-        Stop::End => copy_swept(s, left, out),
-        Stop::Refused(f) => Copied::Refused(f),
-    }
+    swept.stop?;
+    copy_swept(s, swept.left, out)
 }
 
 // Copies the whole records at the front that are accepted, whatever follows them.

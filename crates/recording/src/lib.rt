@@ -1,36 +1,32 @@
 // Records of a recording, read and written one at a time; a recording as a whole; and one copied without its notes.
 #![tactic(auto)]
 
+ghost use Rattle.wire.specs.Read.{says_read};
+ghost use Rattle.layout.specs.Answer.{says_count};
 ghost use Rattle.std.specs.Prelude.{◌≡◌, ◌≤◌, length};
-ghost use Rattle.layout.specs.Written.{Wrote, says, says_written};
-ghost use Rattle.recording.specs.Record.{limit, is_kind, is_written, content_at, body_at, head_at, record_at, record_of, record_word, record_said, says_read_content, says_head, says_record};
+ghost use Rattle.layout.specs.Written.{Wrote, says};
+ghost use Rattle.recording.specs.Record.{limit, is_kind, is_written, content_at, body_at, head_at, record_at, record_of, record_word, record_said, says_read_content, says_record};
 ghost use Rattle.recording.specs.Record.{begins as Record·begins};
 ghost use Rattle.recording.specs.Row.{waits_for, Finds};
 
 mod copy;
 mod row;
 
-pub use copy::{Copied, Front, Left, copy_front, copy_records, whole_records};
-use layout::{Refusal, Written};
-pub use row::{ReadRecording, read_recording};
-use wire::{Container, Cursor, Part, ReadContainer, ReadU16, ReadU32};
+pub use copy::{Front, Left, copy_front, copy_records, whole_records};
+use layout::Refusal;
+pub use row::read_recording;
+use wire::{Container, Cursor, Part, Read};
 
 // The longest body.
 const LIMIT: usize = 65000;
-
-// What a body holds.
-#[derive(Drop)]
-pub enum Content {
-    Note,
-    Holds(Container),
-}
 
 // A record's body by its place.
 #[derive(Drop)]
 pub struct Record {
     pub kind: u16,
     pub body: Part,
-    pub content: Content,
+    // None in a note.
+    pub content: Option<Container>,
 }
 
 // A record's front: its kind, and where its body stands.
@@ -38,24 +34,6 @@ pub struct Record {
 struct Head {
     kind: u16,
     body: Part,
-}
-
-#[derive(Drop)]
-enum ReadHead {
-    Got(Head, Cursor),
-    Refused(Refusal),
-}
-
-#[derive(Drop)]
-enum ReadContent {
-    Got(Content, Cursor),
-    Refused(Refusal),
-}
-
-#[derive(Drop)]
-pub enum ReadRecord {
-    Got(Record, Cursor),
-    Refused(Refusal),
 }
 
 // What is found at the front of bytes that others may follow: these may change what is found of a record that is cut.
@@ -95,58 +73,53 @@ fn begins(len: u32, kind: u16) -> bool
 }
 
 // What the body at a place holds, in bytes that end with it.
-fn content_at(kind: u16, s: &[u8], at: usize) -> ReadContent
+#[tactic(auto, unfolding(crate::specs::Record::content_at, layout::specs::Answer::after))]
+fn content_at(kind: u16, s: &[u8], at: usize) -> Read<Option<Container>>
     ensures { says_read_content result ≡ content_at kind s.now at }
 {
     if kind == 3 {
-        return ReadContent::Got(Content::Note, Cursor { at: s.len() });
+        return Ok((None, Cursor { at: s.len() }));
     }
-    match wire::read_container(s, Cursor { at }) {
-        ReadContainer::Got(x, next) => {
-            if next.at != s.len() {
-                return ReadContent::Refused(layout::plain(layout::TRAIL));
-            }
-            ReadContent::Got(Content::Holds(x), next)
-        }
-        ReadContainer::Refused(f) => ReadContent::Refused(f),
+    let (x, next) = wire::read_container(s, Cursor { at })?;
+    if next.at != s.len() {
+        return Err(layout::plain(layout::TRAIL));
     }
+    Ok((Some(x), next))
 }
 
 // The body that starts at a place, of a record of that length and kind.
-fn body_at(len: u32, kind: u16, s: &[u8], start: usize) -> ReadHead
+#[tactic(auto, using(crate::proofs::Recorded::body_13, crate::proofs::Recorded::body_14, crate::proofs::Recorded::body_short, crate::proofs::Recorded::body_there, crate::proofs::Recorded::long_enough))]
+fn body_at(len: u32, kind: u16, s: &[u8], start: usize) -> Read<Head>
     requires { start ≤ length s.now }
-    ensures { says_head result ≡ body_at len kind s.now start }
+    ensures { says_read result ≡ body_at len kind s.now start }
 {
     if !begins(len, kind) {
-        return ReadHead::Refused(layout::plain(layout::RECORD));
+        return Err(layout::plain(layout::RECORD));
     }
     let count = (len - 6) as usize;
     if count > LIMIT {
-        return ReadHead::Refused(layout::plain(layout::LONG));
+        return Err(layout::plain(layout::LONG));
     }
     if s.len() - start < count {
-        return ReadHead::Refused(layout::end_at(start));
+        return Err(layout::end_at(start));
     }
-    ReadHead::Got(
+    Ok((
         Head {
             kind,
             body: Part { start, count },
         },
         Cursor { at: start + count },
-    )
+    ))
 }
 
 // The head of the record at a place, with the place after its body.
-fn read_head(s: &[u8], at: usize) -> ReadHead
-    ensures { says_head result ≡ head_at s.now at }
+#[tactic(auto, unfolding(crate::specs::Record::head_at, layout::specs::Answer::after), using(crate::proofs::Recorded::field_ends))]
+fn read_head(s: &[u8], at: usize) -> Read<Head>
+    ensures { says_read result ≡ head_at s.now at }
 {
-    match (Cursor { at }).u32(s) {
-        ReadU32::Got(len, a) => match a.u16(s) {
-            ReadU16::Got(kind, body) => body_at(len, kind, s, body.at),
-            ReadU16::Refused(f) => ReadHead::Refused(f),
-        },
-        ReadU32::Refused(f) => ReadHead::Refused(f),
-    }
+    let (len, next) = Cursor { at }.u32(s)?;
+    let (kind, body) = next.u16(s)?;
+    body_at(len, kind, s, body.at)
 }
 
 // Whether bytes that follow may change a head's refusal: they may where it is END, unless none will come.
@@ -159,26 +132,23 @@ fn is_open(no: u8, last: bool) -> bool
     no == layout::END
 }
 
+#[tactic(auto, unfolding(crate::specs::Record::record_at, layout::specs::Answer::after, layout::specs::Answer::means))]
 fn read_at(s: &[u8], at: usize, last: bool) -> ReadFront
     ensures { Finds last s.now at result }
 {
     match read_head(s, at) {
-        ReadHead::Got(head, end) => {
-            let kind = head.kind;
-            let body = head.body;
-            match content_at(kind, &s[..end.at], body.start) {
-                ReadContent::Got(content, next) => ReadFront::Got(
-                    Record {
-                        kind,
-                        body,
-                        content,
-                    },
-                    next,
-                ),
-                ReadContent::Refused(f) => ReadFront::Refused(f),
-            }
-        }
-        ReadHead::Refused(f) => {
+        Ok((head, end)) => match content_at(head.kind, &s[..end.at], head.body.start) {
+            Ok((content, next)) => ReadFront::Got(
+                Record {
+                    kind: head.kind,
+                    body: head.body,
+                    content,
+                },
+                next,
+            ),
+            Err(f) => ReadFront::Refused(f),
+        },
+        Err(f) => {
             if is_open(f.no, last) {
                 return ReadFront::Cut(f);
             }
@@ -188,18 +158,18 @@ fn read_at(s: &[u8], at: usize, last: bool) -> ReadFront
 }
 
 // The record at a place. Its parts, and the place of a refusal, count in the bytes that are lent.
-pub fn read_record_at(s: &[u8], c: Cursor) -> ReadRecord
+pub fn read_record_at(s: &[u8], c: Cursor) -> Read<Record>
     ensures { says_record result ≡ record_at s.now c.at }
 {
     match read_at(s, c.at, true) {
-        ReadFront::Got(x, next) => ReadRecord::Got(x, next),
-        ReadFront::Refused(f) => ReadRecord::Refused(f),
-        ReadFront::Cut(f) => ReadRecord::Refused(f),
+        ReadFront::Got(x, next) => Ok((x, next)),
+        ReadFront::Refused(f) => Err(f),
+        ReadFront::Cut(f) => Err(f),
     }
 }
 
 // The record at the front of the bytes.
-pub fn read_record(s: &[u8]) -> ReadRecord
+pub fn read_record(s: &[u8]) -> Read<Record>
     ensures { says_record result ≡ record_of s.now }
 {
     read_record_at(s, Cursor { at: 0 })
@@ -213,31 +183,30 @@ pub fn read_front(s: &[u8], last: bool) -> ReadFront
     read_at(s, 0, last)
 }
 
-fn put_record(kind: u16, body: &[u8], out: &mut [u8]) -> Written
+fn put_record(kind: u16, body: &[u8], out: &mut [u8]) -> Result<usize, Refusal>
     requires { length body.now ≤ limit }
-    ensures { Wrote (says (record_word kind body.now)) out.old (says_written result) out.new }
+    ensures { Wrote (says (record_word kind body.now)) out.old (says_count result) out.new }
 {
     let whole = 6 + body.len();
     if out.len() < whole {
-        return Written::Refused(layout::plain(layout::ROOM));
+        return Err(layout::plain(layout::ROOM));
     }
     let a = layout::store(out, 0, 4, whole as u64);
     let b = layout::store(out, a, 2, kind as u64);
-    Written::Done(layout::copy(body, 0, body.len(), out, b))
+    Ok(layout::copy(body, 0, body.len(), out, b))
 }
 
 // One record at the front of the part lent to it.
-pub fn write_record(kind: u16, body: &[u8], out: &mut [u8]) -> Written
-    ensures { Wrote (record_said kind body.now) out.old (says_written result) out.new }
+#[tactic(auto, unfolding(crate::specs::Record::record_said, layout::specs::Written::said_of, layout::specs::Written::answer_of, layout::specs::Written::left_of, layout::specs::Answer::means))]
+pub fn write_record(kind: u16, body: &[u8], out: &mut [u8]) -> Result<usize, Refusal>
+    ensures { Wrote (record_said kind body.now) out.old (says_count result) out.new }
 {
     if !is_written(kind) {
-        return Written::Refused(layout::plain(layout::RECORD));
+        return Err(layout::plain(layout::RECORD));
     }
     if body.len() > LIMIT {
-        return Written::Refused(layout::plain(layout::LONG));
+        return Err(layout::plain(layout::LONG));
     }
-    match content_at(kind, body, 0) {
-        ReadContent::Got(_, _) => put_record(kind, body, out),
-        ReadContent::Refused(f) => Written::Refused(f),
-    }
+    content_at(kind, body, 0)?;
+    put_record(kind, body, out)
 }

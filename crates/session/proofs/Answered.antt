@@ -1,6 +1,8 @@
 -- What `find_answer` and `find_response` answer, by the paper's words: found exactly where a transaction stands at the front, told as its Response and its last Data say; refused exactly with
 -- what stops the front. One induction over the steps of the search, and one over the containers.
 -- Assumes nothing.
+use Rattle.wire.specs.Read.{Read, says_read}
+use Rattle.std.specs.Prelude.{Ok, Err}
 use Rattle.std.proofs.Common.{◌≡◌, ℕ, zero, suc, ◌-◌, ◌<◌, ◌≤◌, Bool, true, false, eqb, leb, ◌↔◌, List, [], ◌∷◌, ◌++◌, length, drop, sym, refl, ap, ◌∙◌, subst, arith, eq-eqb, ne_eqb, eqb-true, le-leb, leb-false, leb-true}
 use borrow.Author.Tests.{lt-leb, eqb-false}
 use Rattle.layout.specs.Answer.{Told, Answer, got, refused, pick, after, means, bare}
@@ -13,12 +15,9 @@ use Rattle.wire.specs.declared.Part.{Part}
 use Rattle.wire.specs.declared.container.Container.{Container}
 use Rattle.wire.proofs.laws.Contained.{Boxed, container_stands}
 use Rattle.wire.proofs.laws.Judged.{container_judged, container_one}
-use Rattle.session.specs.Search.{Phases, behind, phase_at, phases_from, newer, last_data, no_data, Reply, payload, response, reply_to, reply_of, answer_in, says_found, response_of, response_in, says_response}
-use Rattle.session.specs.Answered.{Judged, Stands, Front, none, one, From, NoData, LastPayload, without, of_last, Replied, ok, other, Answered, Responded, Stop, no_phase, unread, another's, FailsFrom, Fails, Transaction, Ends, responded, stopped}
-use Rattle.session.specs.declared.search.Ending.{Ending}
-use Rattle.session.specs.declared.search.Ending.TheVariants as ending
+use Rattle.session.specs.Search.{Phases, behind, phase_at, phases_from, newer, last_data, no_data, Reply, payload, response, reply_to, reply_of, answer_in, says_found, response_of, response_in}
+use Rattle.session.specs.Answered.{Judged, Stands, Front, none, one, From, NoData, LastPayload, without, of_last, Replied, ok, other, Answered, Responded, Stop, no_phase, unread, another's, FailsFrom, Fails, Transaction, Ending, Ends, responded, stopped}
 use Rattle.session.specs.declared.search.Found.{Found}
-use Rattle.session.specs.declared.search.ReadResponse.{ReadResponse}
 use Rattle.session.specs.declared.search.Response.{Response}
 
 -- ── the last Data ──
@@ -223,17 +222,17 @@ module _ (number : ℕ) (s : List ℕ) where
   last_more p (y ∷ cs) x = last_more (newer p y) cs x
 
   module _ {at : ℕ} {last : Part} (p : Passed at last) where
-    pub ends_none : length s ≤ at → {t : Told} → t ≡ bare NOPHASE → Ends number s (ending.Stopped t at)
+    pub ends_none : length s ≤ at → {t : Told} → t ≡ bare NOPHASE → Ends number s (Err (t, at))
     ends_none h e = rw e (stopped p.front p.within (no_phase h))
 
-    pub ends_unread : at < length s → {t : Told} → refused t ≡ container_at s at → Ends number s (ending.Stopped t at)
+    pub ends_unread : at < length s → {t : Told} → refused t ≡ container_at s at → Ends number s (Err (t, at))
     ends_unread h e = stopped p.front p.within (unread (λ l. omega arith) (said at (sym e)))
 
     module _ {x : Container} {c : Cursor} (e : got x c.at ≡ container_at s at) where
-      pub ends_another : (x.number ≡ number → ⊥) → {t : Told} → t ≡ bare TID → Ends number s (ending.Stopped t at)
+      pub ends_another : (x.number ≡ number → ⊥) → {t : Told} → t ≡ bare TID → Ends number s (Err (t, at))
       ends_another h i = rw i (stopped p.front p.within (another's (said at (sym e)) h))
 
-      pub ends_response : x.number ≡ number → x.kind ≡ 3 → Ends number s (ending.Response x last c)
+      pub ends_response : x.number ≡ number → x.kind ≡ 3 → Ends number s (Ok (x, last, c))
       ends_response h k = responded (record { behind = at; front = p.front; stands = said at (sym e); ours = h; last = k }) (subst (LastPayload p.before) (sym p.last_is) (last_payload p.before))
 
       pub passed_more : x.number ≡ number → (x.kind ≡ 3 → ⊥) → Passed c.at (newer last x)
@@ -248,14 +247,14 @@ module _ (number : ℕ) (s : List ℕ) where
       goes_on = (goes (said at (sym e))).0
 
   -- what the search ended with is what the definitions find
-  ended : {r : Container} {last : Part} {c : Cursor} → Ends number s (ending.Response r last c) → (cs : List Container) × (got (record { before = cs; response = r }) c.at ≡ phases_from (length s) number s 0) × (last ≡ last_data no_data cs)
+  ended : {r : Container} {last : Part} {c : Cursor} → Ends number s (Ok (r, last, c)) → (cs : List Container) × (got (record { before = cs; response = r }) c.at ≡ phases_from (length s) number s 0) × (last ≡ last_data no_data cs)
   ended (responded {cs} {last = p} t l) = (cs, sym (finds (length s) (omega arith) t.front t.stands t.ours t.last), sym (last_one cs p l))
 
-  stopped_at : {t : Told} {at : ℕ} → Ends number s (ending.Stopped t at) → refused t ≡ phases_from (length s) number s 0
+  stopped_at : {t : Told} {at : ℕ} → Ends number s (Err (t, at)) → refused t ≡ phases_from (length s) number s 0
   stopped_at (stopped f w h) = sym (fails (length s) (omega arith) f h)
 
   module _ {e : Ending} (ends : Ends number s e) where
-    module _ {r : Container} {last : Part} {c : Cursor} (is : e ≡ ending.Response r last c) where
+    module _ {r : Container} {last : Part} {c : Cursor} (is : e ≡ Ok (r, last, c)) where
       pub ended_answer : got (reply_to r.code last) c.at ≡ answer_in number s
       unfolding answer_in
       ended_answer = let u = ended (subst (Ends number s) is ends) in rw u.2 (meant (reply_of no_data) u.1)
@@ -264,7 +263,7 @@ module _ (number : ℕ) (s : List ℕ) where
       unfolding response_in
       ended_response = let u = ended (subst (Ends number s) is ends) in rw u.2 (meant response_of u.1)
 
-    module _ {t : Told} {at : ℕ} (is : e ≡ ending.Stopped t at) where
+    module _ {t : Told} {at : ℕ} (is : e ≡ Err (t, at)) where
       pub stopped_answer : refused t ≡ answer_in number s
       unfolding answer_in
       stopped_answer = not_meant (reply_of no_data) (stopped_at (subst (Ends number s) is ends))
@@ -278,7 +277,7 @@ module _ (number : ℕ) (s : List ℕ) where
   all : Told-from 0 (phases_from (length s) number s 0)
   all = judged (length s) 0 (omega arith)
 
-  module _ (f : Found) (promised : says_found f ≡ answer_in number s) where
+  module _ (f : Read Found) (promised : says_found f ≡ answer_in number s) where
     -- found exactly where a transaction stands at the front; told as its Response and its last Data say, with the place after the Response
     pub found_exact : (y : Reply) (n : ℕ) → says_found f ≡ got y n ↔ Answered number s y n
     unfolding answer_in
@@ -302,13 +301,13 @@ module _ (number : ℕ) (s : List ℕ) where
       λ a. promised ∙ answer_fails a.front a.stop,
     )
 
-  module _ (f : ReadResponse) (promised : says_response f ≡ response_in number s) where
+  module _ (f : Read Response) (promised : says_read f ≡ response_in number s) where
     -- found exactly where a transaction stands at the front: the code and the payload of the Response that ends it, and the last Data payload before that
-    pub response_exact : (y : Response) (n : ℕ) → says_response f ≡ got y n ↔ Responded number s y n
+    pub response_exact : (y : Response) (n : ℕ) → says_read f ≡ got y n ↔ Responded number s y n
     unfolding response_in
     response_exact y n = (forth, back)
       where
-        forth : says_response f ≡ got y n → Responded number s y n
+        forth : says_read f ≡ got y n → Responded number s y n
         forth e =
             let u = unmeant response_of (phases_from (length s) number s 0) (sym promised ∙ e) in
             let p = u.0 in
@@ -321,13 +320,13 @@ module _ (number : ℕ) (s : List ℕ) where
               last = subst (λ z. LastPayload p.before z.last) u.2 (last_payload p.before);
             }
 
-        back : Responded number s y n → says_response f ≡ got y n
+        back : Responded number s y n → says_read f ≡ got y n
         back a =
             let t = a.all in
             let is : response_of (record { before = a.before; response = a.response }) ≡ y = rw (← a.code, ← a.payload, last_one a.before y.last a.last) in
             promised ∙ sym (meant response_of (sym (finds (length s) (omega arith) t.front t.stands t.ours t.last))) ∙ ap (λ z. got z n) is
 
-    pub response_refused : (t : Told) → says_response f ≡ refused t ↔ Fails number s t
+    pub response_refused : (t : Told) → says_read f ≡ refused t ↔ Fails number s t
     unfolding response_in
     response_refused t = (
       λ e. subst (Told-from 0) (refused_meant response_of (phases_from (length s) number s 0) (sym promised ∙ e)) all,

@@ -1,5 +1,8 @@
 -- The payloads of camera calls against the grammar: accepted exactly where the whole payload is a word, 3 exactly where a proper prefix is.
 -- Assumes nothing.
+use Rattle.wire.specs.Read.{Read, says_read}
+use Rattle.wire.specs.declared.Part.{Part}
+use Rattle.wire.specs.declared.storage.StorageInfo.{StorageInfo}
 use Rattle.std.proofs.Common.{◌≡◌, ℕ, ◌≤◌, Bool, true, false, ltb, ◌⊎◌, List, [], length, sym, refl, ap, ◌∙◌, subst, inl, inr, arith, take_all, ltb-false, ltb-true, le-ltb, lt-ltb}
 use Rattle.layout.specs.Answer.{Told, Answer, got, refused, Reader, pick, after, end_at, bad_text, bare}
 use Rattle.layout.specs.Bytes.{Bytes}
@@ -23,11 +26,7 @@ use Rattle.wire.specs.Faults.{RowFault}
 use Rattle.wire.specs.Layout.{storage, Row}
 use Rattle.wire.specs.Places.{num_at, array_at, items_in, filled_at, row_at, row_in}
 use Rattle.wire.specs.Spots.{RowSpot}
-use Rattle.wire.specs.Says.{says_part, says_u32}
 use Rattle.wire.specs.Storage.{says_storage}
-use Rattle.wire.specs.declared.ReadPart.{ReadPart}
-use Rattle.wire.specs.declared.ReadU32.{ReadU32}
-use Rattle.wire.specs.declared.storage.ReadStorage.{ReadStorage}
 use Rattle.wire.proofs.laws.Formats.{array_format, row_format}
 use Rattle.wire.proofs.laws.Located.{num_lies, arrays, rows}
 use Rattle.wire.proofs.laws.Grounds.{row_spot_at, row_blame}
@@ -112,11 +111,11 @@ module _ (s : List ℕ) (h : Bytes s) where
   fills_as read f b p places = fills read s (reads_exactly f places s h (read s 0) refl) (refuses_exactly f b places s h 0 (read s 0) refl) (points_exactly f b p places s h 0 (read s 0) refl)
 
   -- object handles and storage IDs
-  pub handles_fill : (r : ReadPart) → says_part r ≡ handles_payload s → Fills Handles Clean (Here Handles) (items_in 4 s) s (says_part r)
+  pub handles_fill : (r : Read Part) → says_read r ≡ handles_payload s → Fills Handles Clean (Here Handles) (items_in 4 s) s (says_read r)
   handles_fill r promised = rw promised (fills_as (array_at 4) (array_format 4) handles_clean handles_spotted (arrays 4))
 
-  pub storage_fills : (r : ReadStorage) → says_storage r ≡ storage_payload s → Fills (Row storage) (RowFault storage) (RowSpot storage) (row_in storage s) s (says_storage r)
+  pub storage_fills : (r : Read StorageInfo) → says_storage r ≡ storage_payload s → Fills (Row storage) (RowFault storage) (RowSpot storage) (row_in storage s) s (says_storage r)
   storage_fills r promised = rw promised (fills (row_at storage) s (reads_exactly (row_format storage) (rows storage) s h (row_at storage s 0) refl) (row_blame s h 0 storage) (row_spot_at s h 0 storage))
 
-  pub count_fills : (r : ReadU32) → says_u32 r ≡ count_payload s → Fills ObjectCount Clean (Here ObjectCount) (λ n. n) s (says_u32 r)
+  pub count_fills : (r : Read ℕ) → says_read r ≡ count_payload s → Fills ObjectCount Clean (Here ObjectCount) (λ n. n) s (says_read r)
   count_fills r promised = rw promised (fills_as (num_at 4) (number_format 4) (number_faults 4) (number_spotted 4) numbers)

@@ -1,5 +1,4 @@
 pub mod Sending
-pub mod Filled
 pub mod Unique
 pub mod ReadBack
 pub mod Numbers

@@ -1,5 +1,7 @@
 -- `needed` by the functions' own answers: one number is the least, it is what is lacking by the containers, and it is 0 exactly where the answer is settled.
 -- Assumes nothing.
+use Rattle.std.specs.Prelude.{Err}
+use Rattle.wire.specs.Read.{Read}
 use Rattle.std.proofs.Common.{◌≡◌, ℕ, ◌≤◌, Bool, true, false, eqb, leb, ◌↔◌, List, ◌++◌, length, drop, sym, refl, subst, inl, inr, append-nil, arith, eqb-true, leb-false, leb-true}
 use borrow.Author.Tests.{eqb-false}
 use Rattle.layout.specs.Answer.{Told, Answer, got, refused}
@@ -11,7 +13,6 @@ use Rattle.session.specs.Search.{Reply, answer_in, says_found}
 use Rattle.session.specs.Answered.{Front, none, one, Fails}
 use Rattle.session.specs.Needs.{Waits, Needs, Cut, Lacks, head, rest, rest_and_head, Needed, nothing, bytes}
 use Rattle.session.specs.declared.search.Found.{Found}
-use Rattle.session.specs.declared.search.Found.TheVariants as found
 use Rattle.session.proofs.Answered.{goes, found_refused}
 use Rattle.session.proofs.NeedsLaws.{settled, answered_settled, lacks_needs, settled_needs}
 use Rattle.session.proofs.NeedsRead.{Standing, early, cut_there, closed, stop_standing}
@@ -56,12 +57,12 @@ module _ (number' : ℕ) (s : List ℕ) where
 
       go : (y : Answer Reply) → answer_in number' s ≡ y → (n : ℕ) × Needed number' s n
       go (got x n) e = (0, nothing (answered_settled e))
-      go (refused t) e = let f = (found_refused number' s (found.Refused t) (sym e) t).0 refl in by f e (stop_standing number' s f.place f.stop)
+      go (refused t) e = let f = (found_refused number' s (Err t) (sym e) t).0 refl in by f e (stop_standing number' s f.place f.stop)
 
   pub needs_exact : Bytes s → (n : ℕ) → Needs number' s n ↔ Needed number' s n
   needs_exact h n = (λ a. let m = some_needed in subst (Needed number' s) (needs_one (needed_needs h m.1) a) m.1, needed_needs h)
 
-  module _ (f : Found) (promised : says_found f ≡ answer_in number' s) where
+  module _ (f : Read Found) (promised : says_found f ≡ answer_in number' s) where
     -- nothing is needed exactly where the answer is none of 1, 6 and 8
     pub nothing_needed : {n : ℕ} → Needs number' s n → (n ≡ 0) ↔ (Waits (says_found f) → ⊥)
     nothing_needed {n} a = (

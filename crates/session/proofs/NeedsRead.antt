@@ -1,5 +1,6 @@
 -- What the code reads of a container that is cut, and where its search stopped: what is lacking there is what is needed.
 -- Assumes nothing.
+use Rattle.std.specs.Prelude.{Ok, Err}
 use Rattle.std.proofs.Common.{◌≡◌, ℕ, ◌+◌, ◌-◌, ◌<◌, ◌≤◌, Bool, true, false, eqb, List, length, drop, sym, refl, ap, ◌∙◌, subst, inl, inr, arith, length-drop, eqb-true, le-leb}
 use borrow.Author.Tests.{lt-leb, eqb-false}
 use Rattle.layout.specs.Answer.{Told, Answer, got, refused, pick, after, end_at, bare, span_at, field_at}
@@ -20,7 +21,6 @@ use Rattle.wire.proofs.laws.Judged.{least, header_judged}
 use Rattle.session.specs.Search.{answer_in}
 use Rattle.session.specs.Answered.{Stop, no_phase, unread, another's, Ends, stopped}
 use Rattle.session.specs.Needs.{Needs, whole_in, Cut, Lacks, rest, rest_and_head}
-use Rattle.session.specs.declared.search.Ending.TheVariants as ending
 use Rattle.session.proofs.Answered.{answer_fails, ended_answer}
 use Rattle.session.proofs.WholeLasts.{known_kind}
 use Rattle.session.proofs.NeedsLaws.{is_open, settled, answered_settled, whole_most, lacks_needs, settled_needs}
@@ -135,17 +135,17 @@ module _ (s : List ℕ) (at : ℕ) (c : Cut (drop at s)) where
 
 -- ── where the search stopped, of its promise ──
 
-module _ (number' : ℕ) (s : List ℕ) {t : Told} {at : ℕ} (e : Ends number' s (ending.Stopped t at)) where
+module _ (number' : ℕ) (s : List ℕ) {t : Told} {at : ℕ} (e : Ends number' s (Err (t, at))) where
   pub stop_within : at ≤ length s
   stop_within = of e
     where
-      of : Ends number' s (ending.Stopped t at) → at ≤ length s
+      of : Ends number' s (Err (t, at)) → at ≤ length s
       of (stopped f w h) = w
 
   pub stop_lacks : Bytes s → {n : ℕ} → Lacks number' (drop at s) n → Needs number' s n
   stop_lacks h {n} l = of e
     where
-      of : Ends number' s (ending.Stopped t at) → Needs number' s n
+      of : Ends number' s (Err (t, at)) → Needs number' s n
       of (stopped f w p) = lacks_needs number' s h f w l
 
   module _ (six : 6 ≤ length (drop at s)) {b : Bool} (i : b ≡ is_cut t) where
@@ -157,7 +157,7 @@ module _ (number' : ℕ) (s : List ℕ) {t : Told} {at : ℕ} (e : Ends number' 
         by (cut_there k c) = c
         by (closed k o) = zero_one (cc)
 
-        of : Ends number' s (ending.Stopped t at) → Cut (drop at s)
+        of : Ends number' s (Err (t, at)) → Cut (drop at s)
         of (stopped f w p) = by (stop_standing number' s at p)
 
     pub stop_closed : b ≡ false → Needs number' s 0
@@ -168,8 +168,8 @@ module _ (number' : ℕ) (s : List ℕ) {t : Told} {at : ℕ} (e : Ends number' 
         by a (cut_there k c) = zero_one (cc)
         by a (closed k o) = settled_needs number' s (settled a o)
 
-        of : Ends number' s (ending.Stopped t at) → Needs number' s 0
+        of : Ends number' s (Err (t, at)) → Needs number' s 0
         of (stopped f w p) = by (answer_fails number' s f p) (stop_standing number' s at p)
 
-pub found_needs : (number' : ℕ) (s : List ℕ) {r : Container} {last : Part} {c : Cursor} → Ends number' s (ending.Response r last c) → Needs number' s 0
+pub found_needs : (number' : ℕ) (s : List ℕ) {r : Container} {last : Part} {c : Cursor} → Ends number' s (Ok (r, last, c)) → Needs number' s 0
 found_needs number' s e = settled_needs number' s (answered_settled (sym (ended_answer number' s e refl)))

@@ -1,15 +1,15 @@
 -- What `command` and `command_with_data` write, `read_container` reads back, and `find_answer` passes over or finds: the Command stands at the front and the Data
 -- container behind it, and each is read there as it was written.
 -- Assumes nothing.
+use Rattle.wire.specs.Read.{Read, says_read}
 use Rattle.std.proofs.Common.{◌≡◌, ℕ, ◌+◌, ◌^◌, ◌<◌, ◌≤◌, true, List, ◌++◌, length, take, drop, sym, refl, ap, ◌∙◌, append_assoc, zero-add, arith, length-append, length-drop, drop-drop, take_at, drop_at}
 use Rattle.layout.specs.Answer.{Answer, got, refused, means}
 use Rattle.layout.specs.Written.{Said, says, no, Wrote}
 use Rattle.layout.proofs.laws.Numbers.{zero_one}
-use Rattle.wire.specs.Container.{is_kind, container_at, container_word, container_said, param_bytes, command_said, says_container}
+use Rattle.wire.specs.Container.{is_kind, container_at, container_word, container_said, param_bytes, command_said}
 use Rattle.wire.specs.Returned.{Returns, part_of}
 use Rattle.wire.specs.declared.container.Command.{Command}
 use Rattle.wire.specs.declared.container.Container.{Container}
-use Rattle.wire.specs.declared.container.ReadContainer.{ReadContainer}
 use Rattle.wire.proofs.laws.Contained.{container_length}
 use Rattle.layout.proofs.laws.Did.{Whole, whole}
 use Rattle.wire.proofs.laws.ReadBack.{Due, due, command-due, container_there, payload_there}
@@ -94,12 +94,12 @@ due_size {kind} {code} {tid} {payload} d = ap length d.word ∙ container_length
 -- ── a command alone ──
 
 module _ (x : Session) (c : Command) (old new : List ℕ) (t : Turn) (n : ℕ) (code_fits : c.code < 256 ^ 2) (state-fits : x.number < 256 ^ 4) (promised : Makes x c.code (command_said c) old (got t n) new) where
-  pub command_returns : (r : ReadContainer) → says_container r ≡ container_at new 0 → Returns 1 c.code (sent x c) (param_bytes c.count c.params) new n (says_container r)
+  pub command_returns : (r : Read Container) → says_read r ≡ container_at new 0 → Returns 1 c.code (sent x c) (param_bytes c.count c.params) new n (says_read r)
   command_returns = wire.command_returns c (sent x c) old new n code_fits (sent_fits x c state-fits) (was_written promised)
 
   -- with a Response of its number behind it, it is passed over, and the Response is found
   pub command_passed : (code : ℕ) (payload old' new' : List ℕ) (m : ℕ) → code < 256 ^ 2 → Wrote (container_said 3 code (sent x c) payload) old' (got tt m) new' → (more : List ℕ) →
-      (f : Found) → says_found f ≡ answer_in (sent x c) (take n new ++ (take m new' ++ more)) → says_found f ≡ got (reply_to code no_data) (n + m)
+      (f : Read Found) → says_found f ≡ answer_in (sent x c) (take n new ++ (take m new' ++ more)) → says_found f ≡ got (reply_to code no_data) (n + m)
   command_passed code payload old' new' m response_fits answers more f e =
       let p = passed_more (sent x c) s (none_passed (sent x c) s) {c = record { at = _ }} (is_there a) refl (λ k. omega arith) in
       rw till (e ∙ sym (ended_answer (sent x c) s (ends_response (sent x c) s p {c = record { at = _ }} (is_there b) refl refl) refl))
@@ -158,15 +158,15 @@ module _ (x : Session) (c : Command) (data-sent old new : List ℕ) (t : Turn) (
     data_at : At 2 c.code (sent x c) data-sent s after_command behind
     data_at = placed s after_command behind due_data code_fits (sent_fits x c state-fits) (rw zero-add at (behind_it command_at))
 
-  pub sent_command_returns : (r : ReadContainer) → says_container r ≡ container_at new 0 → Returns 1 c.code (sent x c) (param_bytes c.count c.params) new after_command (says_container r)
-  sent_command_returns r e = returned (command_at new (drop (length all.bs) old) all.left) (says_container r) after_command e (omega arith)
+  pub sent_command_returns : (r : Read Container) → says_read r ≡ container_at new 0 → Returns 1 c.code (sent x c) (param_bytes c.count c.params) new after_command (says_read r)
+  sent_command_returns r e = returned (command_at new (drop (length all.bs) old) all.left) (says_read r) after_command e (omega arith)
 
-  pub sent_data_returns : (r : ReadContainer) → says_container r ≡ container_at new after_command → Returns 2 c.code (sent x c) data-sent new n (says_container r)
-  sent_data_returns r e = returned (data_at new (drop (length all.bs) old) all.left) (says_container r) n e counted
+  pub sent_data_returns : (r : Read Container) → says_read r ≡ container_at new after_command → Returns 2 c.code (sent x c) data-sent new n (says_read r)
+  sent_data_returns r e = returned (data_at new (drop (length all.bs) old) all.left) (says_read r) n e counted
 
   -- with a Response of its number behind it, the data are found
   pub data_found : (code : ℕ) (payload old' new' : List ℕ) (m : ℕ) → code < 256 ^ 2 → Wrote (container_said 3 code (sent x c) payload) old' (got tt m) new' → (more : List ℕ) →
-      (f : Found) → says_found f ≡ answer_in (sent x c) (take n new ++ (take m new' ++ more)) → Replies code data-sent (take n new ++ (take m new' ++ more)) (n + m) (says_found f)
+      (f : Read Found) → says_found f ≡ answer_in (sent x c) (take n new ++ (take m new' ++ more)) → Replies code data-sent (take n new ++ (take m new' ++ more)) (n + m) (says_found f)
   data_found code payload old' new' m response_fits answers more f e = record {
     part = record { start = after_command + 12; count = length data-sent };
     answer =

@@ -1,6 +1,10 @@
 -- Which refusals of the session's readers have a place: 1 and 2 and no other, and the place lies in the bytes that were lent.
 -- A search goes from container to container, a payload's reader from field to field.
 -- Assumes nothing.
+use Rattle.wire.specs.Read.{Read, says_read}
+use Rattle.wire.specs.declared.storage.StorageInfo.{StorageInfo}
+use Rattle.wire.specs.declared.Part.{Part}
+use Rattle.session.specs.declared.search.Response.{Response}
 use Rattle.std.proofs.Common.{◌≡◌, ℕ, zero, suc, eqb, leb, List, length, arith}
 use Rattle.layout.specs.Answer.{Reader}
 use Rattle.layout.specs.Bytes.{number}
@@ -8,16 +12,11 @@ use Rattle.layout.specs.Refusals.{TID, NOPHASE}
 use Rattle.layout.specs.Told.{PlacedExactly, Inside}
 use Rattle.layout.proofs.laws.Told.{Telling, read, plainly, Closed, telling_pick, telling_after, telling_means, telling_field, told_from_0}
 use Rattle.wire.specs.Layout.{storage}
-use Rattle.wire.specs.Says.{says_part, says_u32}
 use Rattle.wire.specs.Storage.{says_storage}
-use Rattle.wire.specs.declared.ReadPart.{ReadPart}
-use Rattle.wire.specs.declared.ReadU32.{ReadU32}
-use Rattle.wire.specs.declared.storage.ReadStorage.{ReadStorage}
 use Rattle.wire.proofs.laws.Told.{array_telling, row_telling, filled_telling, container_telling}
-use Rattle.session.specs.Search.{phase_at, phases_from, answer_in, says_found, response_in, says_response}
+use Rattle.session.specs.Search.{phase_at, phases_from, answer_in, says_found, response_in}
 use Rattle.session.specs.Payloads.{filling, handles_payload, storage_payload, count_payload}
 use Rattle.session.specs.declared.search.Found.{Found}
-use Rattle.session.specs.declared.search.ReadResponse.{ReadResponse}
 
 module _ {P : ℕ → Type 0} (s : List ℕ) (closed : Closed P s) where
   phases_telling : (fuel tid at : ℕ) → P at → Telling P (phases_from fuel tid s at)
@@ -54,18 +53,18 @@ module _ {P : ℕ → Type 0} (s : List ℕ) (closed : Closed P s) where
 -- ── of the functions' own answers ──
 
 module _ (s : List ℕ) where
-  pub found_told : (tid : ℕ) (r : Found) → says_found r ≡ answer_in tid s → PlacedExactly (says_found r) × Inside (length s) (says_found r)
+  pub found_told : (tid : ℕ) (r : Read Found) → says_found r ≡ answer_in tid s → PlacedExactly (says_found r) × Inside (length s) (says_found r)
   found_told tid r promised = told_from_0 s promised λ P c h. answer_telling s c tid h
 
-  pub response_told : (tid : ℕ) (r : ReadResponse) → says_response r ≡ response_in tid s → PlacedExactly (says_response r) × Inside (length s) (says_response r)
+  pub response_told : (tid : ℕ) (r : Read Response) → says_read r ≡ response_in tid s → PlacedExactly (says_read r) × Inside (length s) (says_read r)
   response_told tid r promised = told_from_0 s promised λ P c h. response_telling s c tid h
 
   -- object handles and storage IDs
-  pub handles_told : (r : ReadPart) → says_part r ≡ handles_payload s → PlacedExactly (says_part r) × Inside (length s) (says_part r)
+  pub handles_told : (r : Read Part) → says_read r ≡ handles_payload s → PlacedExactly (says_read r) × Inside (length s) (says_read r)
   handles_told r promised = told_from_0 s promised λ P c h. handles_telling s c h
 
-  pub storage_told : (r : ReadStorage) → says_storage r ≡ storage_payload s → PlacedExactly (says_storage r) × Inside (length s) (says_storage r)
+  pub storage_told : (r : Read StorageInfo) → says_storage r ≡ storage_payload s → PlacedExactly (says_storage r) × Inside (length s) (says_storage r)
   storage_told r promised = told_from_0 s promised λ P c h. storage_telling s c h
 
-  pub count_told : (r : ReadU32) → says_u32 r ≡ count_payload s → PlacedExactly (says_u32 r) × Inside (length s) (says_u32 r)
+  pub count_told : (r : Read ℕ) → says_read r ≡ count_payload s → PlacedExactly (says_read r) × Inside (length s) (says_read r)
   count_told r promised = told_from_0 s promised λ P c h. count_telling s c h

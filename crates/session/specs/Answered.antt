@@ -1,7 +1,8 @@
 -- A transaction's containers and what is answered of them, by the paper's words: no reader and no search stands here. What is answered of one container is wire's row of tests
 -- (`ContainerSays`), in which no reader stands either.
 -- Assumes nothing.
-use Rattle.std.specs.Prelude.{◌≡◌, ℕ, ◌≤◌, List, [], ◌∷◌, ◌++◌, length, drop, ◌≢◌}
+use Rattle.std.specs.Prelude.{◌≡◌, ℕ, ◌≤◌, List, [], ◌∷◌, ◌++◌, length, drop, ◌≢◌, Ok, Err}
+use Rattle.std.specs.declared.result.Result.{Result}
 use Rattle.layout.specs.Answer.{Told, Answer, got, refused, bare}
 use Rattle.layout.specs.Refusals.{TID, NOPHASE}
 use Rattle.wire.specs.Refused.{ContainerSays}
@@ -9,8 +10,6 @@ use Rattle.wire.specs.declared.Part.{Part}
 use Rattle.wire.specs.declared.container.Container.{Container}
 use Rattle.wire.specs.declared.Cursor.{Cursor}
 use Rattle.session.specs.Search.{Reply, payload, response}
-use Rattle.session.specs.declared.search.Ending.{Ending}
-use Rattle.session.specs.declared.search.Ending.TheVariants as ending
 use Rattle.session.specs.declared.search.Response.{Response}
 
 -- ── containers end to end ──
@@ -89,6 +88,10 @@ Fails number s = FailsFrom number s 0
 
 -- ── where the search ends, which both answers are made of ──
 
+-- a Response, the last Data payload and the place after the Response; or a refusal of what starts at a place
+abbrev pub Ending : Type 0
+Ending = Result (Container × Part × Cursor) (Told × ℕ)
+
 pub data Ends (number : ℕ) (s : List ℕ) : Ending → Type 0 where
-  responded : {cs : List Container} {r : Container} {last : Part} {c : Cursor} → Transaction number s cs r c.at → LastPayload cs last → Ends number s (ending.Response r last c)
-  stopped : {cs : List Container} {t : Told} {at : ℕ} → Front number s 0 cs at → at ≤ length s → Stop number s at t → Ends number s (ending.Stopped t at)
+  responded : {cs : List Container} {r : Container} {last : Part} {c : Cursor} → Transaction number s cs r c.at → LastPayload cs last → Ends number s (Ok (r, last, c))
+  stopped : {cs : List Container} {t : Told} {at : ℕ} → Front number s 0 cs at → at ≤ length s → Stop number s at t → Ends number s (Err (t, at))

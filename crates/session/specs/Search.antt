@@ -1,5 +1,7 @@
 -- Looking for a transaction's answer: containers lie end to end, and its Response is the last that is read.
 -- Assumes nothing.
+use Rattle.std.specs.Prelude.{Ok, Err}
+use Rattle.wire.specs.Read.{Read}
 use Rattle.std.specs.Prelude.{ℕ, zero, suc, List, [], ◌∷◌, length, ◌==◌, nat_le}
 use Rattle.layout.specs.Answer.{Answer, got, refused, Reader, pick, after, means, bare}
 use Rattle.layout.specs.Refusals.{TID, NOPHASE}
@@ -9,8 +11,6 @@ use Rattle.wire.specs.declared.container.Container.{Container}
 use Rattle.session.specs.declared.search.Found.{Found}
 use Rattle.session.specs.declared.search.Found.TheVariants as found
 use Rattle.session.specs.declared.search.Response.{Response}
-use Rattle.session.specs.declared.search.ReadResponse.{ReadResponse}
-use Rattle.session.specs.declared.search.ReadResponse.TheVariants as readResponse
 
 -- ── the containers of a transaction ──
 
@@ -65,10 +65,13 @@ reply_of last r = reply_to r.response.code (last_data last r.before)
 unfoldable pub answer_in : ℕ → List ℕ → Answer Reply
 answer_in number s = means (reply_of no_data) (phases_from (length s) number s 0)
 
-abbrev pub says_found : Found → Answer Reply
-says_found (found.Payload p c) = got (payload p) c.at
-says_found (found.Response code c) = got (response code) c.at
-says_found (found.Refused t) = refused t
+abbrev pub reply_from : Found → Reply
+reply_from (found.Payload p) = payload p
+reply_from (found.Response code) = response code
+
+abbrev pub says_found : Read Found → Answer Reply
+says_found (Ok (r, c)) = got (reply_from r) c.at
+says_found (Err t) = refused t
 
 -- ── the Response itself ──
 
@@ -78,7 +81,3 @@ response_of r = record { code = r.response.code; payload = r.response.payload; l
 
 unfoldable pub response_in : ℕ → List ℕ → Answer Response
 response_in number s = means response_of (phases_from (length s) number s 0)
-
-abbrev pub says_response : ReadResponse → Answer Response
-says_response (readResponse.Got x c) = got x c.at
-says_response (readResponse.Refused t) = refused t

@@ -8,7 +8,9 @@ use Rattle.wire.specs.declared.container.Command.{Command}
 use Rattle.session.specs.Calls.{open_session, close_session}
 use Rattle.session.specs.declared.transaction.Session.{Session}
 use Rattle.session.specs.declared.transaction.Made.{Made}
-use Rattle.session.specs.declared.transaction.Made.TheVariants as made
+use Rattle.std.specs.Prelude.{Ok, Err}
+use Rattle.std.specs.declared.result.Result.{Result}
+use Rattle.layout.specs.declared.Refusal.{Refusal}
 
 -- ── numbers ──
 
@@ -55,9 +57,9 @@ with_data c payload number = together (command_said c number) (container_said 2 
 
 -- ── what is answered ──
 
-abbrev pub says_made : Made → Answer Turn
-says_made (made.Done number next count) = got (record { number = number; next = next }) count
-says_made (made.Refused t) = refused t
+abbrev pub says_made : Result Made Refusal → Answer Turn
+says_made (Ok m) = got (record { number = m.number; next = m.next }) m.count
+says_made (Err t) = refused t
 
 -- a writer's answer, and what it leaves, for the bytes that are due by the number that a command of this code uses;
 -- where they were written the answer has the turn as well, and a refusal has none

@@ -1,15 +1,13 @@
 // How many bytes an answer still needs.
-ghost use Rattle.std.specs.Prelude.{◌≡◌, ◌-◌, true, length, drop, ◌==◌};
+ghost use Rattle.std.specs.Prelude.{◌≡◌, ◌-◌, true, length, drop, ◌==◌, Err};
 ghost use Rattle.layout.specs.Answer.{pick};
 ghost use Rattle.layout.specs.Refusals.{END, SIZE};
 ghost use Rattle.session.specs.Answered.{Ends};
 ghost use Rattle.session.specs.Needs.{Cut, Lacks, Needs, whole_in};
-ghost use Rattle.session.specs.declared.search.Ending.TheVariants as ending;
 
 use crate::search;
-use crate::search::Ending;
 use layout::Refusal;
-use wire::{Cursor, Header, ReadHeader, ReadU32};
+use wire::{Cursor, Header};
 
 // The six bytes of a container that have its kind.
 const KIND_END: usize = 6;
@@ -17,22 +15,20 @@ const KIND_END: usize = 6;
 const HEADER: usize = 12;
 
 // Of a container whose header is cut: how many bytes there are up to its end.
+#[tactic(auto, using(crate::proofs::NeedsRead::cut_size, crate::proofs::NeedsRead::short_whole, crate::proofs::NeedsRead::long_whole, crate::proofs::NeedsRead::length_there))]
 fn header_lacks(s: &[u8], at: usize) -> usize
     requires { Cut (drop at s.now) }
     ensures { result ≡ whole_in (drop at s.now) - length (drop at s.now) }
 {
-    match (Cursor { at }).u32(s) {
-        ReadU32::Got(len, _) => {
-            let left = s.len() - at;
-            if (len as usize) < HEADER {
-                HEADER - left
-            } else {
-                len as usize - left
-            }
-        }
-        // never: six bytes are there
-        ReadU32::Refused(_) => 0,
+    // never refused: six bytes are there
+    let Ok((len, _)) = (Cursor { at }).u32(s) else {
+        return 0;
+    };
+    let left = s.len() - at;
+    if (len as usize) < HEADER {
+        return HEADER - left;
     }
+    len as usize - left
 }
 
 // What is needed of the next container, where one is passed over.
@@ -46,17 +42,16 @@ fn next_lacks(h: Header, number: u32) -> usize
 }
 
 // Of a container that is cut behind its kind.
+#[tactic(auto, using(crate::proofs::NeedsRead::cut_size, crate::proofs::NeedsRead::header_whole, crate::proofs::NeedsRead::next_few, crate::proofs::NeedsRead::got_lacks, crate::proofs::NeedsRead::refused_lacks))]
 fn rest_lacks(s: &[u8], number: u32, at: usize) -> usize
     requires { Cut (drop at s.now) }
     ensures { Lacks number (drop at s.now) result }
 {
-    match wire::read_header(s, Cursor { at }) {
-        ReadHeader::Got(h, _) => {
-            let left = s.len() - at;
-            h.payload_len as usize + HEADER - left + next_lacks(h, number)
-        }
-        ReadHeader::Refused(_) => header_lacks(s, at),
-    }
+    let Ok((h, _)) = wire::read_header(s, Cursor { at }) else {
+        return header_lacks(s, at);
+    };
+    let left = s.len() - at;
+    h.payload_len as usize + HEADER - left + next_lacks(h, number)
 }
 
 fn is_cut(why: Refusal) -> bool
@@ -69,8 +64,9 @@ fn is_cut(why: Refusal) -> bool
 }
 
 // Where the search stopped.
+#[tactic(auto, using(crate::specs::Needs::head, crate::proofs::NeedsRead::stop_within, crate::proofs::NeedsRead::stop_lacks, crate::proofs::NeedsRead::stop_cut, crate::proofs::NeedsRead::stop_closed))]
 fn lacking(s: &[u8], number: u32, at: usize, why: Refusal) -> usize
-    requires { Ends number s.now (ending.Stopped why at) }
+    requires { Ends number s.now (Err (why, at)) }
     ensures { Needs number s.now result }
 {
     let left = s.len() - at;
@@ -85,11 +81,12 @@ fn lacking(s: &[u8], number: u32, at: usize, why: Refusal) -> usize
 
 // The least number of bytes that must follow before anything can be said of the answer to the command of that number: 0 where `find_answer` answers, or refuses
 // with something that no bytes can change.
+#[tactic(auto, using(crate::proofs::NeedsRead::found_needs))]
 pub fn needed(s: &[u8], number: u32) -> usize
     ensures { Needs number s.now result }
 {
     match search::search(s, number) {
-        Ending::Response(_, _, _) => 0,
-        Ending::Stopped(why, at) => lacking(s, number, at, why),
+        Ok(_) => 0,
+        Err((why, at)) => lacking(s, number, at, why),
     }
 }

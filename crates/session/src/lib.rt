@@ -16,5 +16,5 @@ pub use lack::needed;
 pub use payload::{
     device_info, object_count, object_handles, object_info, storage_ids, storage_info,
 };
-pub use search::{Found, ReadResponse, Response, find_answer, find_response};
+pub use search::{Found, Response, find_answer, find_response};
 pub use transaction::{Made, Session, command, command_with_data, fresh};

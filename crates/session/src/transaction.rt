@@ -1,11 +1,12 @@
 // Transactions: a command that is made uses the session's number, or 0 where it opens one, and hands on the session after it.
+ghost use Rattle.layout.specs.Answer.{says_count};
 ghost use Rattle.std.specs.Prelude.{◌≡◌};
 ghost use Rattle.layout.specs.Answer.{means};
-ghost use Rattle.layout.specs.Written.{Wrote, says_written};
+ghost use Rattle.layout.specs.Written.{Wrote};
 ghost use Rattle.wire.specs.Container.{command_said};
 ghost use Rattle.session.specs.Transaction.{fresh_session, number_sent, turn, with_data, Makes, says_made};
 
-use layout::{Refusal, Written};
+use layout::Refusal;
 use wire::Command;
 
 const OPEN_SESSION: u16 = 0x1002;
@@ -23,13 +24,10 @@ pub struct Session {
 // The number that the command uses, the session after it, and how many bytes were written.
 // A refused command uses none: the session stays as it was.
 #[derive(Drop)]
-pub enum Made {
-    Done {
-        number: u32,
-        next: Session,
-        count: usize,
-    },
-    Refused(Refusal),
+pub struct Made {
+    pub number: u32,
+    pub next: Session,
+    pub count: usize,
 }
 
 pub fn fresh() -> Session
@@ -44,6 +42,7 @@ fn number_sent(state: u32, code: u16) -> u32
     if code == OPEN_SESSION { 0 } else { state }
 }
 
+#[tactic(auto, unfolding(crate::specs::Transaction::next_number))]
 fn following(session: Session, code: u16) -> Session
     ensures { result ≡ (turn session code).next }
 {
@@ -58,27 +57,26 @@ fn following(session: Session, code: u16) -> Session
     }
     if session.number < LAST_NUMBER {
         return Session {
-            number: std::num::wrapping_add_u32(session.number, 1),
+            number: session.number + 1,
         };
     }
     Session { number: 1 }
 }
 
 // What was written, as a command made.
-fn with_turn(session: Session, code: u16, w: Written) -> Made
-    ensures { says_made result ≡ means (λ _. turn session code) (says_written w) }
+#[tactic(auto, unfolding(layout::specs::Answer::means))]
+fn with_turn(session: Session, code: u16, w: Result<usize, Refusal>) -> Result<Made, Refusal>
+    ensures { says_made result ≡ means (λ _. turn session code) (says_count w) }
 {
-    match w {
-        Written::Done(count) => Made::Done {
-            number: number_sent(session.number, code),
-            next: following(session, code),
-            count,
-        },
-        Written::Refused(f) => Made::Refused(f),
-    }
+    let count = w?;
+    Ok(Made {
+        number: number_sent(session.number, code),
+        next: following(session, code),
+        count,
+    })
 }
 
-pub fn command(session: Session, c: Command, out: &mut [u8]) -> Made
+pub fn command(session: Session, c: Command, out: &mut [u8]) -> Result<Made, Refusal>
     ensures { Makes session c.code (command_said c) out.old (says_made result) out.new }
 {
     let code = c.code;
@@ -88,25 +86,24 @@ pub fn command(session: Session, c: Command, out: &mut [u8]) -> Made
 
 // The command's bytes are made apart, and its data are written first where they are to stand:
 // so each refusal comes in its order, before a byte of the output is changed.
-fn write_both(c: Command, number: u32, payload: &[u8], out: &mut [u8]) -> Written
-    ensures { Wrote (with_data c payload.now number) out.old (says_written result) out.new }
+fn write_both(c: Command, number: u32, payload: &[u8], out: &mut [u8]) -> Result<usize, Refusal>
+    ensures { Wrote (with_data c payload.now number) out.old (says_count result) out.new }
 {
     let code = c.code;
     let mut front = [0u8; 32];
-    match wire::write_command(c, number, &mut front) {
-        Written::Done(n) => {
-            let start = layout::least(n, out.len());
-            match wire::write_container(2, code, number, payload, &mut out[start..]) {
-                Written::Done(m) => Written::Done(layout::copy(&front, 0, n, out, 0) + m),
-                Written::Refused(f) => Written::Refused(f),
-            }
-        }
-        Written::Refused(f) => Written::Refused(f),
-    }
+    let n = wire::write_command(c, number, &mut front)?;
+    let start = layout::least(n, out.len());
+    let m = wire::write_container(2, code, number, payload, &mut out[start..])?;
+    Ok(layout::copy(&front, 0, n, out, 0) + m)
 }
 
 // The command, and its data behind it.
-pub fn command_with_data(session: Session, c: Command, payload: &[u8], out: &mut [u8]) -> Made
+pub fn command_with_data(
+    session: Session,
+    c: Command,
+    payload: &[u8],
+    out: &mut [u8],
+) -> Result<Made, Refusal>
     ensures { Makes session c.code (with_data c payload.now) out.old (says_made result) out.new }
 {
     let code = c.code;

@@ -1,5 +1,6 @@
 -- What a row that is accepted has: its entries from end to end, one for each key, not over the limit; and what is found in it is what the definition finds.
 -- Assumes nothing.
+use Rattle.std.specs.Prelude.{Ok, Err}
 use mathlib.Core.Path.{◌≡◌, refl, ap, sym, ◌∙◌, subst}
 use mathlib.Core.Bool.{Bool, true, false}
 use mathlib.Core.List.{List, [], ◌∷◌, ◌++◌}
@@ -17,13 +18,11 @@ use Rattle.layout.proofs.laws.Numbers.{zero_one}
 use Rattle.settings.specs.Refusals.{FULL}
 use Rattle.settings.specs.Layout.{Key, Setting, same_key, holds, Distinct, limit}
 use Rattle.settings.specs.Entry.{entry_at, key_in, setting_in}
-use Rattle.settings.specs.Row.{settings_in, behind, row_from, row_of, says_checked, Whole, any_key, own_key, first_by, or_else, find_by, says_held, find_in, found_in}
+use Rattle.settings.specs.Row.{settings_in, behind, row_from, row_of, count_read, Whole, any_key, own_key, first_by, or_else, find_by, says_held, find_in, found_in}
 use Rattle.settings.specs.Search.{Chain, stop, link, place_of, best_of, Best, held_at}
 use Rattle.settings.specs.declared.entry.Edition.{Edition}
 use Rattle.settings.specs.declared.entry.Edition.TheVariants as edition
 use Rattle.settings.specs.declared.entry.Entry.{Entry}
-use Rattle.layout.specs.declared.Checked.TheVariants as checked
-use Rattle.settings.specs.declared.row.Found.TheVariants as found
 use Rattle.settings.proofs.Spelled.{Spelt, entry_sound}
 use Rattle.settings.proofs.Rows.{not_both, same_true, true_same, forward, ahead, chain_snoc}
 
@@ -118,7 +117,7 @@ pub record Known (e : Edition) (s : List ℕ) (count : ℕ) : Type 0 where
 pub known : (e : Edition) (s : List ℕ) → Bytes s → (count : ℕ) → Whole e s count → Known e s count
 known e s h count w = go (row_of e s) refl w
   where
-    go : (y : Answer (List Entry)) → row_of e s ≡ y → says_checked y ≡ checked.Whole count → Known e s count
+    go : (y : Answer (List Entry)) → row_of e s ≡ y → count_read y ≡ Ok count → Known e s count
     go (got xs n) f g =
         let a = row_accepted e s h xs n f in
         record { entries = xs; is = f ∙ ap (got xs) a.end; size = cc; chain = subst (λ m. Chain e s 0 xs m) a.end a.chain; distinct = a.distinct; few = a.few }
@@ -148,30 +147,30 @@ module _ (e : Edition) (s : List ℕ) (h : Bytes s) where
       go sp l rest false i = later _ rest (rw i)
 
   -- what stands where it is found
-  held_first : (k : Key) (xs : List Entry) (o : Option Entry) → First k xs (length s) o → held_at e s (place_of s k (length s) xs) ≡ says_held o
+  held_first : (k : Key) (xs : List Entry) (o : Option Entry) → First k xs (length s) o → Ok (held_at e s (place_of s k (length s) xs)) ≡ says_held o
   unfolding held_at
   held_first k xs o (at_place {x} a b n i j) = rw (lt-ltb (place_of s k (length s) xs) (length s) a, b, i)
   held_first k xs o (nowhere a) = rw (le-ltb (place_of s k (length s) xs) (length s) (omega (arith, a)))
 
-  pub found_at : (vendor property : ℕ) (serial : List ℕ) (count : ℕ) → Whole e s count → {q : ℕ} → Best e vendor property serial s q → held_at e s q ≡ found_in e vendor property serial s
+  pub found_at : (vendor property : ℕ) (serial : List ℕ) (count : ℕ) → Whole e s count → {q : ℕ} → Best e vendor property serial s q → Ok (held_at e s q) ≡ found_in e vendor property serial s
   unfolding best_of find_in
   found_at vendor property serial count w {q} b =
       let k = known e s h count w in
-      ap (held_at e s) (b.best k.entries k.chain) ∙ by e refl k.entries k.chain ∙ ap (find_in e vendor property serial s) (sym k.is)
+      ap (λ n. Ok (held_at e s n)) (b.best k.entries k.chain) ∙ by e refl k.entries k.chain ∙ ap (find_in e vendor property serial s) (sym k.is)
     where
       best-of : (xs : List Entry) (o p : Option Entry) → First (own_key vendor property serial) xs (length s) o → First (any_key vendor property) xs (length s) p
-          → held_at e s (pick (ltb (place_of s (own_key vendor property serial) (length s) xs) (length s)) (place_of s (own_key vendor property serial) (length s) xs) (place_of s (any_key vendor property) (length s) xs)) ≡ says_held (or_else o p)
+          → Ok (held_at e s (pick (ltb (place_of s (own_key vendor property serial) (length s) xs) (length s)) (place_of s (own_key vendor property serial) (length s) xs) (place_of s (any_key vendor property) (length s) xs))) ≡ says_held (or_else o p)
       best-of xs o p (at_place {x} a b n i j) g = rw (lt-ltb (place_of s (own_key vendor property serial) (length s) xs) (length s) a) (held_first (own_key vendor property serial) xs (some x) (at_place a b n i j))
       best-of xs o p (nowhere a) g = rw (le-ltb (place_of s (own_key vendor property serial) (length s) xs) (length s) (omega (arith, a))) (held_first (any_key vendor property) xs p g)
 
-      by : (d : Edition) → d ≡ e → (xs : List Entry) → Chain e s 0 xs (length s) → held_at e s (best_of d vendor property serial s xs) ≡ says_held (find_by (key_in s) d vendor property serial xs)
+      by : (d : Edition) → d ≡ e → (xs : List Entry) → Chain e s 0 xs (length s) → Ok (held_at e s (best_of d vendor property serial s xs)) ≡ says_held (find_by (key_in s) d vendor property serial xs)
       by edition.One i xs c = held_first (any_key vendor property) xs _ (first_place c (any_key vendor property))
       by edition.Two i xs c = best-of xs _ _ (first_place c (own_key vendor property serial)) (first_place c (any_key vendor property))
 
-pub found_refused : (e : Edition) (s : List ℕ) (vendor property : ℕ) (serial : List ℕ) {t : Told} → says_checked (row_of e s) ≡ checked.Refused t → found.Refused t ≡ found_in e vendor property serial s
+pub found_refused : (e : Edition) (s : List ℕ) (vendor property : ℕ) (serial : List ℕ) {t : Told} → count_read (row_of e s) ≡ Err t → Err t ≡ found_in e vendor property serial s
 unfolding find_in
 found_refused e s vendor property serial {t} w = go (row_of e s) w
   where
-    go : (y : Answer (List Entry)) → says_checked y ≡ checked.Refused t → found.Refused t ≡ find_in e vendor property serial s y
+    go : (y : Answer (List Entry)) → count_read y ≡ Err t → Err t ≡ find_in e vendor property serial s y
     go (got xs n) f = zero_one (cc)
-    go (refused u) f = let same : u ≡ t = cc in ap found.Refused (sym same)
+    go (refused u) f = let same : u ≡ t = cc in ap Err (sym same)

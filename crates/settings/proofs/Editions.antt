@@ -22,7 +22,8 @@ use Rattle.settings.specs.Row.{settings_in, behind, row_from, row_of, own_key, f
 use Rattle.settings.specs.Search.{Chain, stop, link}
 use Rattle.settings.specs.declared.entry.Edition.TheVariants as edition
 use Rattle.settings.specs.declared.entry.Entry.{Entry}
-use Rattle.settings.specs.declared.row.Found.TheVariants as found
+use Rattle.std.specs.Prelude.{Ok}
+use Rattle.std.specs.declared.option.Option.TheVariants.{Some}
 use Rattle.settings.proofs.Spelled.{entry_sound}
 use Rattle.settings.proofs.Rows.{same_true, true_same}
 use Rattle.settings.proofs.Accepted.{row_accepted}
@@ -113,7 +114,7 @@ first_there k (y ∷ before) after r n e = go (same_key k y.key) n (λ m. first_
 
 -- wherever it stands in the row
 pub own_wins : (s : List ℕ) (before after : List Setting) (r : Setting) → IsRow edition.Two s (before ++ (r ∷ after)) → (vendor property : ℕ) (serial : List ℕ) → r.key ≡ own_key vendor property serial
-    → (x : Entry) × (found_in edition.Two vendor property serial s ≡ found.Held x) × (setting_in s x ≡ r)
+    → (x : Entry) × (found_in edition.Two vendor property serial s ≡ Ok (Some x)) × (setting_in s x ≡ r)
 own_wins s before after r row v p us k =
     let rs = before ++ (r ∷ after) in
     let n : holds (own_key v p us) before ≡ false = subst (λ j. holds j before ≡ false) k (distinct_before before r after row.distinct) in

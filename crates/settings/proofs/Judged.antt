@@ -1,6 +1,7 @@
 -- Which refusal an entry is given: its front test by test; then, of its content, by the layout alone. Where the fields are read, the words they are stand there one behind the other, up to a place;
 -- where they are not read, no word begins there, and the codec of the content stops at the same field. What is said so determines the answer.
 -- Assumes nothing.
+use Rattle.wire.specs.Read.{Read, says_read}
 use mathlib.Core.Path.{◌≡◌, refl, ap, sym, ◌∙◌, subst}
 use mathlib.Core.Bool.{Bool, true, false}
 use mathlib.Core.List.{List, ◌++◌}
@@ -34,7 +35,7 @@ use Rattle.wire.specs.Refused.{announced, kind_in}
 use Rattle.wire.proofs.laws.Formats.{value_format}
 use Rattle.wire.proofs.laws.Judged.{one_test, goes_on, enough, least_row, field_row}
 use Rattle.settings.specs.Layout.{OWN, knows, Setting, Content, IsEntry, is_entry}
-use Rattle.settings.specs.Entry.{fields_at, rest_at, whole_at, is_tidy, tidy_at, entry_at, alone_in, setting_in, says_entry}
+use Rattle.settings.specs.Entry.{fields_at, rest_at, whole_at, is_tidy, tidy_at, entry_at, alone_in, setting_in}
 use Rattle.settings.specs.Fields.{ContentFault, ContentSpot}
 use Rattle.settings.specs.Refused.{entry_from, EntryInOrder, content_in, FrontTests, ContentSays, in_a_field, bytes_left, untidy, accepted, EntrySays, AloneSays}
 use Rattle.settings.proofs.Entries.{stands_in, stands_out, ends, fields_sound, read_whole, number_sound, number_complete}
@@ -42,7 +43,6 @@ use Rattle.settings.proofs.Fields.{content_faults, content_unread, content_point
 use Rattle.settings.proofs.Spelled.{serial_format, content_codec, content_format, split_number, entry_sound, entry_complete}
 use Rattle.settings.specs.declared.entry.Edition.{Edition}
 use Rattle.settings.specs.declared.entry.Entry.{Entry}
-use Rattle.settings.specs.declared.entry.ReadEntry.{ReadEntry}
 
 -- a word is a prefix of itself
 word_prefix : {c : List ℕ} {r : Setting} → Content loose c r → Prefix Content c r (length c)
@@ -240,7 +240,7 @@ module _ (e : Edition) (s : List ℕ) (h : Bytes s) (at : ℕ) where
   entry_judged = front_judged (Unit {0}) (λ x n. tidy_at s x n) (behind_judged (Unit {0}) (λ x n. tidy_at s x n) λ _ x n i tidied _. tidied tt)
 
   -- of the function's own answer
-  pub entry_says : (r : ReadEntry) → says_entry r ≡ entry_at e s at → EntrySays e at d (says_entry r)
+  pub entry_says : (r : (Read Entry)) → says_read r ≡ entry_at e s at → EntrySays e at d (says_read r)
   entry_says r promised = rw promised entry_judged
 
 -- ── an entry alone in its bytes ──

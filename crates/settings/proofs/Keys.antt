@@ -1,5 +1,9 @@
 -- The words of keys that a question asks for: written to a buffer they are words of the grammar; and units that no serial can be have none.
 -- Assumes nothing.
+use Rattle.layout.specs.Answer.{says_count}
+use Rattle.std.specs.Prelude.{Ok, Err}
+use Rattle.std.specs.declared.result.Result.{Result}
+use Rattle.layout.specs.declared.Refusal.{Refusal}
 use mathlib.Core.Path.{◌≡◌, refl, ap, sym, ◌∙◌, subst}
 use mathlib.Core.Bool.{Bool, true, false}
 use mathlib.Core.List.{List, [], ◌∷◌, ◌++◌, append_assoc}
@@ -14,9 +18,7 @@ use Rattle.layout.specs.Bytes.{Bytes, bytes}
 use Rattle.layout.specs.Grammar as grammar
 use Rattle.layout.specs.Grammar.{tidy, Number, empty, both, lead, such, as', Repeat}
 use Rattle.layout.specs.Refusals.{TEXT, COUNT}
-use Rattle.layout.specs.Written.{says, no, Wrote, Put, says_written}
-use Rattle.layout.specs.declared.Written.{Written}
-use Rattle.layout.specs.declared.Written.TheVariants as written
+use Rattle.layout.specs.Written.{says, no, Wrote, Put}
 use Rattle.layout.proofs.laws.Did.{whole, Kept, not_due, too_short, kept}
 use Rattle.layout.proofs.laws.Make.{repeat_length, tested}
 use Rattle.layout.proofs.laws.Numbers.{length_bytes, zero_one}
@@ -86,12 +88,12 @@ module _ (vendor property : ℕ) (lv : vendor < 256 ^ 4) (lp : property < 256 ^ 
       subst (λ w. Keyed tidy w (any_key vendor property)) (sym (all ∙ front_word 16 vendor property [])) (as' (both (grammar.num {n = 16} (omega arith)) (both (grammar.num lv) (both (grammar.num lp) empty))))
 
   module _ (us : List ℕ) where
-    pub own_spells : ((i : ℕ) → get_or us i 0 < 256 ^ 2) → (head rest : List ℕ) {told tnew new : List ℕ} {a n : ℕ} {r : Written} → length head ≡ 8 → r ≡ written.Done n → Wrote (text_said us) told (says_written r) tnew
-        → Put (head ++ (tnew ++ rest)) 0 (bytes 2 17 ++ bytes 4 vendor ++ bytes 2 property) new a → Spells (own_key vendor property us) new (written.Done (a + n))
+    pub own_spells : ((i : ℕ) → get_or us i 0 < 256 ^ 2) → (head rest : List ℕ) {told tnew new : List ℕ} {a n : ℕ} {r : (Result ℕ Refusal)} → length head ≡ 8 → r ≡ Ok n → Wrote (text_said us) told (says_count r) tnew
+        → Put (head ++ (tnew ++ rest)) 0 (bytes 2 17 ++ bytes 4 vendor ++ bytes 2 property) new a → Spells (own_key vendor property us) new (Ok (a + n))
     own_spells small head rest {told} {tnew} {new} {a} {n} k is w p =
         let f = bytes 2 17 ++ bytes 4 vendor ++ bytes 2 property in
         let size : length f ≡ 8 = front_size 17 vendor property in
-        let d = whole (subst (λ x. Wrote (text_said us) told (says_written x) tnew) is w) in
+        let d = whole (subst (λ x. Wrote (text_said us) told (says_count x) tnew) is w) in
         let s = said_text us d.bs d.due in
         let room : length f ≤ length (head ++ (tnew ++ rest)) = omega (arith, size, k, length-append head (tnew ++ rest)) in
         let rest_of : drop (length f) (head ++ (tnew ++ rest)) ≡ tnew ++ rest = drop_at head (tnew ++ rest) (length f) (k ∙ sym size) in
@@ -116,9 +118,9 @@ own_text : (w : List ℕ) (k : Key) → Keyed tidy w k → k.kind ≡ OWN → (s
 own_text w k (as' (both {a = kind} g (both h (both {v = sw} {b = us} i j)))) e = (sw, subst (λ b. Serial b tidy sw us) (eq-eqb kind OWN e) j)
 
 -- units that are refused are no key's
-pub own_none : (vendor property : ℕ) (us : List ℕ) {told tnew : List ℕ} {t : Told} {r : Written} → r ≡ written.Refused t → Wrote (text_said us) told (says_written r) tnew → 511 ≤ length told
+pub own_none : (vendor property : ℕ) (us : List ℕ) {told tnew : List ℕ} {t : Told} {r : (Result ℕ Refusal)} → r ≡ Err t → Wrote (text_said us) told (says_count r) tnew → 511 ≤ length told
     → (w : List ℕ) → Keyed tidy w (own_key vendor property us) → ⊥
-own_none vendor property us {told} {tnew} {t} is wrote room w g = of (kept (subst (λ x. Wrote (text_said us) told (says_written x) tnew) is wrote)).1
+own_none vendor property us {told} {tnew} {t} is wrote room w g = of (kept (subst (λ x. Wrote (text_said us) told (says_count x) tnew) is wrote)).1
   where
     of : Kept (text_said us) told t → ⊥
     of (not_due e) = let s = own_text w (own_key vendor property us) g refl in let f = text-said s.0 us s.1 in zero_one (cc)
@@ -138,16 +140,16 @@ pub none_places : (s : List ℕ) → Bytes s → (k : Key) → ((w : List ℕ) �
 none_places s h k n = record { places = λ e xs c. sym (new-place s h c k (none_holds h k n c)) }
 
 -- what was answered
-pub spells_done : {k : Key} {out : List ℕ} {r : Written} {n : ℕ} → r ≡ written.Done n → Spells k out r → (n ≤ length out) × Keyed tidy (take n out) k
+pub spells_done : {k : Key} {out : List ℕ} {r : (Result ℕ Refusal)} {n : ℕ} → r ≡ Ok n → Spells k out r → (n ≤ length out) × Keyed tidy (take n out) k
 spells_done {k} {out} {n = n} e s = of (subst (Spells k out) e s)
   where
-    of : Spells k out (written.Done n) → (n ≤ length out) × Keyed tidy (take n out) k
+    of : Spells k out (Ok n) → (n ≤ length out) × Keyed tidy (take n out) k
     of (word_of l g) = (l, g)
 
-pub spells_none : {k : Key} {out : List ℕ} {r : Written} {t : Told} → r ≡ written.Refused t → Spells k out r → (w : List ℕ) → Keyed tidy w k → ⊥
+pub spells_none : {k : Key} {out : List ℕ} {r : (Result ℕ Refusal)} {t : Told} → r ≡ Err t → Spells k out r → (w : List ℕ) → Keyed tidy w k → ⊥
 spells_none {k} {out} {t = t} e s = of (subst (Spells k out) e s)
   where
-    of : Spells k out (written.Refused t) → (w : List ℕ) → Keyed tidy w k → ⊥
+    of : Spells k out (Err t) → (w : List ℕ) → Keyed tidy w k → ⊥
     of (no_word f) = f
 
 -- ── the place that is found ──

@@ -1,5 +1,6 @@
 -- Laws of `without` on readings, and the theorems of a removal, of the functions' own answers: no entry has the key after it, every other stands as it stood, and what is not held gives the row back.
 -- Assumes nothing.
+use Rattle.std.specs.Prelude.{Err}
 use mathlib.Core.Path.{◌≡◌, refl, ap, sym, ◌∙◌, subst}
 use mathlib.Core.Bool.{Bool, true, false}
 use mathlib.Core.List.{List, [], ◌∷◌, ◌++◌}
@@ -15,14 +16,13 @@ use Rattle.layout.specs.Written.{says, no, Wrote}
 use Rattle.layout.proofs.laws.Numbers.{zero_one}
 use Rattle.settings.specs.Layout.{ANY, OWN, Key, Setting, same_key, holds, Distinct, Entries, one_more, IsRow}
 use Rattle.settings.specs.Layout as layout
-use Rattle.settings.specs.Row.{settings_in, row_of, says_checked, any_key, own_key, first_by, or_else, find_by, found_in, Finds}
+use Rattle.settings.specs.Row.{settings_in, row_of, count_read, any_key, own_key, first_by, or_else, find_by, found_in, Finds}
 use Rattle.settings.specs.RowSays.{Held, here, later}
 use Rattle.settings.specs.RemoveSays.{Removed, none_had, taken_out, LessRow, RemoveSays, of_row, no_room, goes_out}
 use Rattle.settings.specs.Store.{without, entry_word, row_word, remove_said, settings_of}
 use Rattle.settings.specs.declared.entry.Edition.{Edition}
 use Rattle.settings.specs.declared.entry.Edition.TheVariants as edition
 use Rattle.settings.specs.declared.entry.Entry.{Entry}
-use Rattle.layout.specs.declared.Checked.TheVariants as checked
 use Rattle.settings.proofs.Rows.{not_both, same_true, true_same, false_same}
 use Rattle.settings.proofs.Puts.{key_of, first_none}
 use Rattle.settings.proofs.Exact.{entries_word, row_complete, row_sound}
@@ -174,14 +174,14 @@ module _ (e : Edition) (s : List ℕ) (hs : Bytes s) (k : Key) (old new : List �
       go (got xs n) i = room (settings_in s xs) (row_sound e s hs xs n i) (leb (length (row_word (without k (settings_in s xs)))) (length old)) refl
       go (refused t) i =
           let a = refuses promised {t = t} (rw i) in
-          rw (a.0, a.1) (of_row (row_says e s hs (checked.Refused t) (ap says_checked (sym i))))
+          rw (a.0, a.1) (of_row (row_says e s hs (Err t) (ap count_read (sym i))))
 
   -- and no other answer, and no other output, is said of the same inputs
   pub remove_one : {y : Answer (Unit {0})} {m : List ℕ} → RemoveSays e s k old y m → (answer ≡ y) × (new ≡ m)
   unfolding remove_said means
   remove_one (of_row {t} f) = refuses promised (go (row_of e s) (row_one e s hs f))
     where
-      go : (y : Answer (List Entry)) → says_checked y ≡ checked.Refused t → remove_said (means (settings_in s) y) k ≡ no t
+      go : (y : Answer (List Entry)) → count_read y ≡ Err t → remove_said (means (settings_in s) y) k ≡ no t
       go (got xs n) f = zero_one (cc)
       go (refused u) f = cc
   remove_one (no_room r l) = short_of promised (less_said r) l

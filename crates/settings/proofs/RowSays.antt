@@ -1,5 +1,8 @@
 -- `check_row` answers as specs/RowSays has it: what stands before the next entry is a row by itself, read entry by entry. What is said there determines the answer.
 -- Assumes nothing.
+use Rattle.std.specs.Prelude.{Ok}
+use Rattle.std.specs.declared.result.Result.{Result}
+use Rattle.layout.specs.declared.Refusal.{Refusal}
 use mathlib.Core.Path.{◌≡◌, refl, ap, sym, ◌∙◌, subst}
 use mathlib.Core.Bool.{Bool, true, false}
 use mathlib.Core.List.{List, [], ◌∷◌, ◌++◌, append-nil, append_assoc}
@@ -17,12 +20,10 @@ use Rattle.layout.proofs.laws.Numbers.{Bytes-drop, zero_one}
 use Rattle.settings.specs.Refusals.{FULL}
 use Rattle.settings.specs.Layout.{Key, Setting, same_key, holds, Distinct, IsEntry, Entries, none, one_more, limit, IsRow}
 use Rattle.settings.specs.Entry.{entry_at, key_in, setting_in}
-use Rattle.settings.specs.Row.{settings_in, behind, row_from, row_of, says_checked}
+use Rattle.settings.specs.Row.{settings_in, behind, row_from, row_of, count_read}
 use Rattle.settings.specs.RowSays.{Held, here, later, Next, RowSays, whole, of_entry, twice, full}
 use Rattle.settings.specs.declared.entry.Edition.{Edition}
 use Rattle.settings.specs.declared.entry.Entry.{Entry}
-use Rattle.layout.specs.declared.Checked.{Checked}
-use Rattle.layout.specs.declared.Checked.TheVariants as checked
 use Rattle.settings.proofs.Accepted.{settings_snoc, distinct_snoc}
 use Rattle.settings.proofs.Exact.{entry_long, chain_on, row_reads}
 use Rattle.settings.proofs.Judged.{entry_judged, entry_one}
@@ -104,38 +105,38 @@ module _ (e : Edition) (s : List ℕ) (h : Bytes s) where
 
   -- ── the row from a place on ──
 
-  from_here : (fuel : ℕ) (ys : List Entry) (at : ℕ) → Front ys at → length s - at ≤ fuel → RowSays e s (says_checked (row_from e fuel ys s at))
+  from_here : (fuel : ℕ) (ys : List Entry) (at : ℕ) → Front ys at → length s - at ≤ fuel → RowSays e s (count_read (row_from e fuel ys s at))
   unfolding row_from after
   from_here zero ys at f k = done ys at f (omega arith)
     where
-      done : (ys : List Entry) (at : ℕ) → Front ys at → length s ≤ at → RowSays e s (says_checked (got ys at))
+      done : (ys : List Entry) (at : ℕ) → Front ys at → length s ≤ at → RowSays e s (count_read (got ys at))
       done ys at f k =
           let all : take at s ≡ s = take_all at s k in
-          subst (λ n. RowSays e s (checked.Whole n)) (length-map ys (setting_in s)) (whole (settings_in s ys) (subst (λ w. IsRow e w (settings_in s ys)) all (front_row f)))
+          subst (λ n. RowSays e s (Ok n)) (length-map ys (setting_in s)) (whole (settings_in s ys) (subst (λ w. IsRow e w (settings_in s ys)) all (front_row f)))
   from_here (suc fuel) ys at f k = test (ltb at (length s)) refl (λ zs m. from_here fuel zs m)
     where
       Onward : Type 0
-      Onward = (zs : List Entry) (m : ℕ) → Front zs m → length s - m ≤ fuel → RowSays e s (says_checked (row_from e fuel zs s m))
+      Onward = (zs : List Entry) (m : ℕ) → Front zs m → length s - m ≤ fuel → RowSays e s (count_read (row_from e fuel zs s m))
 
       after_it : (x : Entry) (m : ℕ) → entry_at e s at ≡ got x m → (b : Bool) → holds (key_in s x) (settings_in s ys) ≡ b → (l : Bool) → leb limit (length ys) ≡ l → Onward →
-          RowSays e s (says_checked (pick b (refused (bare RECORD)) (pick l (refused (bare FULL)) (row_from e fuel (ys ++ (x ∷ [])) s m))))
+          RowSays e s (count_read (pick b (refused (bare RECORD)) (pick l (refused (bare FULL)) (row_from e fuel (ys ++ (x ∷ [])) s m))))
       after_it x m a true i l j on = twice at (settings_in s ys) (setting_in s x) (front_row f) (next f a) (held (key_in s x) (settings_in s ys) i)
       after_it x m a false i true j on =
           full at (settings_in s ys) (setting_in s x) (front_row f) (next f a) (not_held (key_in s x) (settings_in s ys) i) (omega (arith, length-map ys (setting_in s), f.few, leb-true limit (length ys) j))
       after_it x m a false i false j on = on (ys ++ (x ∷ [])) m (front_more f a i (leb-false limit (length ys) j)) (omega (arith, forward s h (sp f a)))
 
-      entry : (y : Answer Entry) → entry_at e s at ≡ y → at < length s → Onward → RowSays e s (says_checked (after y λ x m. behind s ys x (row_from e fuel (ys ++ (x ∷ [])) s m)))
+      entry : (y : Answer Entry) → entry_at e s at ≡ y → at < length s → Onward → RowSays e s (count_read (after y λ x m. behind s ys x (row_from e fuel (ys ++ (x ∷ [])) s m)))
       entry (got x m) a lt on = after_it x m a (holds (key_in s x) (settings_in s ys)) refl (leb limit (length ys)) refl on
       entry (refused t) a lt on = of_entry at (settings_in s ys) lt (front_row f) (rw a at (entry_judged e s h at))
 
-      test : (b : Bool) → ltb at (length s) ≡ b → Onward → RowSays e s (says_checked (pick b (after (entry_at e s at) λ x m. behind s ys x (row_from e fuel (ys ++ (x ∷ [])) s m)) (got ys at)))
+      test : (b : Bool) → ltb at (length s) ≡ b → Onward → RowSays e s (count_read (pick b (after (entry_at e s at) λ x m. behind s ys x (row_from e fuel (ys ++ (x ∷ [])) s m)) (got ys at)))
       test true t on = entry (entry_at e s at) refl (ltb-true at (length s) t) on
       test false t on =
           let all : take at s ≡ s = take_all at s (ltb-false at (length s) t) in
-          subst (λ n. RowSays e s (checked.Whole n)) (length-map ys (setting_in s)) (whole (settings_in s ys) (subst (λ w. IsRow e w (settings_in s ys)) all (front_row f)))
+          subst (λ n. RowSays e s (Ok n)) (length-map ys (setting_in s)) (whole (settings_in s ys) (subst (λ w. IsRow e w (settings_in s ys)) all (front_row f)))
 
   -- of the function's own answer
-  pub row_says : (r : Checked) → r ≡ says_checked (row_of e s) → RowSays e s r
+  pub row_says : (r : (Result ℕ Refusal)) → r ≡ count_read (row_of e s) → RowSays e s r
   unfolding row_of
   row_says r promised = rw promised (from_here (length s) [] 0 (record { entries = none; distinct = tt; few = omega arith; within = omega arith }) (omega arith))
 
@@ -181,20 +182,20 @@ module _ (e : Edition) (s : List ℕ) (h : Bytes s) where
       let a = entry_complete e s at w (at + n.size) r n.within here n.is in
       record { entry = a.0; end = at + n.size; read = a.1; reading = ap (λ (x : Setting). x.key) a.2; inside = omega (arith, entry_long n.is, size, n.within) }
 
-  pub row_one : {y : Checked} → RowSays e s y → says_checked (row_of e s) ≡ y
+  pub row_one : {y : (Result ℕ Refusal)} → RowSays e s y → count_read (row_of e s) ≡ y
   unfolding after
-  row_one (whole rs r) = let a = row_reads e s rs r in ap says_checked a.1 ∙ ap checked.Whole (sym (length-map a.0 (setting_in s)) ∙ ap length a.2)
+  row_one (whole rs r) = let a = row_reads e s rs r in ap count_read a.1 ∙ ap Ok (sym (length-map a.0 (setting_in s)) ∙ ap length a.2)
   row_one (of_entry at rs {t} lt r says) =
       let f = front_read at rs (omega arith) r in
       let is = entry_one e at (drop at s) (Bytes-drop at s h) (entry_at e s at) (refused t) (entry_judged e s h at) says in
-      ap says_checked (f.goes_on ∙ step f.left f.entries at lt f.enough is)
+      ap count_read (f.goes_on ∙ step f.left f.entries at lt f.enough is)
   row_one (twice at rs r row n k) =
       let x = next_read n in
       let f = front_read at rs (omega (arith, n.within)) row in
       let old : holds (key_in s x.entry) (settings_in s f.entries) ≡ true = rw (x.reading, f.readings) (holding r.key rs k) in
-      ap says_checked {y = refused (bare RECORD)} (f.goes_on ∙ step f.left f.entries at x.inside f.enough x.read ∙ rw old)
+      ap count_read {y = refused (bare RECORD)} (f.goes_on ∙ step f.left f.entries at x.inside f.enough x.read ∙ rw old)
   row_one (full at rs r row n k l) =
       let x = next_read n in
       let f = front_read at rs (omega (arith, n.within)) row in
       let new : holds (key_in s x.entry) (settings_in s f.entries) ≡ false = rw (x.reading, f.readings) (not_holding r.key rs k) in
-      ap says_checked {y = refused (bare FULL)} (f.goes_on ∙ step f.left f.entries at x.inside f.enough x.read ∙ rw (new, le-leb limit (length f.entries) (omega (arith, count_of f))))
+      ap count_read {y = refused (bare FULL)} (f.goes_on ∙ step f.left f.entries at x.inside f.enough x.read ∙ rw (new, le-leb limit (length f.entries) (omega (arith, count_of f))))

@@ -1,6 +1,7 @@
 -- A row by its entries. The entries that were accepted stand one behind the other: going through them again, by the length that stands at the front of each, meets each of them where it
 -- starts. There the word of a key stands exactly where the entry has the key.
 -- Assumes nothing.
+use Rattle.std.specs.Prelude.{Ok, Err}
 use mathlib.Core.Path.{◌≡◌, refl, ap, sym, ◌∙◌, subst}
 use mathlib.Core.Bool.{Bool, true, false}
 use mathlib.Core.List.{List, [], ◌∷◌, ◌++◌}
@@ -21,11 +22,10 @@ use Rattle.wire.specs.Property.{bytes_of}
 use Rattle.settings.specs.Refusals.{FULL}
 use Rattle.settings.specs.Layout.{Key, Keyed, key_discrete, decided, same_key, holds, limit}
 use Rattle.settings.specs.Entry.{entry_at, key_slot, key_in}
-use Rattle.settings.specs.Row.{settings_in, row_from, row_of, says_checked}
+use Rattle.settings.specs.Row.{settings_in, row_from, row_of, count_read}
 use Rattle.settings.specs.Search.{Chain, stop, link, Chained, place_of, Seeks, told_from, told_end}
 use Rattle.settings.specs.declared.entry.Edition.{Edition}
 use Rattle.settings.specs.declared.entry.Entry.{Entry}
-use Rattle.layout.specs.declared.Checked.TheVariants as checked
 use Rattle.settings.proofs.Entries.{read_within, number_complete}
 use Rattle.settings.proofs.Spelled.{key_codec, key_format, Spelt, entry_sound}
 
@@ -259,11 +259,11 @@ unfolding row_of
 rowing e s = record { before = []; fuel = length s; chain = stop; size = refl; enough = omega arith; left = refl; within = omega arith }
 
 module _ {e : Edition} {s : List ℕ} {at count : ℕ} (r : Rowing e s at count) where
-  pub rowing_end : length s ≤ at → checked.Whole count ≡ says_checked (row_of e s)
-  rowing_end le = ap checked.Whole (sym r.size) ∙ ap says_checked (sym (row_end e s r.fuel r.before at le) ∙ r.left)
+  pub rowing_end : length s ≤ at → Ok count ≡ count_read (row_of e s)
+  rowing_end le = ap Ok (sym r.size) ∙ ap count_read (sym (row_end e s r.fuel r.before at le) ∙ r.left)
 
-  pub rowing_refused : at < length s → {t : Told} → refused t ≡ entry_at e s at → checked.Refused t ≡ says_checked (row_of e s)
-  rowing_refused lt {t} f = ap says_checked (sym (row_refused e s r.fuel r.before at t lt r.enough (sym f)) ∙ r.left)
+  pub rowing_refused : at < length s → {t : Told} → refused t ≡ entry_at e s at → Err t ≡ count_read (row_of e s)
+  rowing_refused lt {t} f = ap count_read (sym (row_refused e s r.fuel r.before at t lt r.enough (sym f)) ∙ r.left)
 
 -- and the next entry is read
 pub record Met (e : Edition) (s : List ℕ) (at count : ℕ) (x : Entry) (n : ℕ) : Type 0 where
@@ -300,11 +300,11 @@ module _ {e : Edition} {s : List ℕ} {at count n : ℕ} {x : Entry} (m : Met e 
         go false i = refl
         go true i = let z : ⊥ = omega (arith, place, held_place s m.bytes r.chain (key_in s x) i) in absurd z
 
-    pub rowing_twice : p < at → {t : Told} → t ≡ bare RECORD → checked.Refused t ≡ says_checked (row_of e s)
-    rowing_twice l i = ap checked.Refused i ∙ ap says_checked (sym (row_twice e s r.fuel r.before at x n m.more r.enough (sym m.reads) (stood l)) ∙ r.left)
+    pub rowing_twice : p < at → {t : Told} → t ≡ bare RECORD → Err t ≡ count_read (row_of e s)
+    rowing_twice l i = ap Err i ∙ ap count_read (sym (row_twice e s r.fuel r.before at x n m.more r.enough (sym m.reads) (stood l)) ∙ r.left)
 
-    pub rowing_full : at ≤ p → limit ≤ count → {t : Told} → t ≡ bare FULL → checked.Refused t ≡ says_checked (row_of e s)
-    rowing_full l k i = ap checked.Refused i ∙ ap says_checked (sym (row_full e s r.fuel r.before at x n m.more r.enough (sym m.reads) (new l) (omega (arith, r.size))) ∙ r.left)
+    pub rowing_full : at ≤ p → limit ≤ count → {t : Told} → t ≡ bare FULL → Err t ≡ count_read (row_of e s)
+    rowing_full l k i = ap Err i ∙ ap count_read (sym (row_full e s r.fuel r.before at x n m.more r.enough (sym m.reads) (new l) (omega (arith, r.size))) ∙ r.left)
 
     pub rowing_next : at ≤ p → count < limit → Rowing e s n (count + 1)
     rowing_next l k =

@@ -1,5 +1,9 @@
 -- An entry written from its fields: what is due by the tests that led there, and the writes that make it.
 -- Assumes nothing.
+use Rattle.layout.specs.Answer.{says_count}
+use Rattle.std.specs.Prelude.{Ok, Err}
+use Rattle.std.specs.declared.result.Result.{Result}
+use Rattle.layout.specs.declared.Refusal.{Refusal}
 use mathlib.Core.Path.{◌≡◌, ap, sym, ◌∙◌, subst}
 use mathlib.Core.Bool.{Bool, true, false}
 use mathlib.Core.List.{List, [], ◌++◌}
@@ -11,9 +15,7 @@ use lib.Seq.{take_at, take-length}
 use Rattle.layout.specs.Answer.{Told, Answer, got, refused, bare}
 use Rattle.layout.specs.Bytes.{bytes}
 use Rattle.layout.specs.Refusals.{RECORD}
-use Rattle.layout.specs.Written.{Said, says, no, Wrote, Put, roomed, says_written}
-use Rattle.layout.specs.declared.Written.{Written}
-use Rattle.layout.specs.declared.Written.TheVariants as written
+use Rattle.layout.specs.Written.{Said, says, no, Wrote, Put, roomed}
 use Rattle.layout.proofs.laws.Did.{whole, Kept, not_due, too_short, kept}
 use Rattle.layout.proofs.laws.Numbers.{length_bytes}
 use Rattle.layout.proofs.laws.Stored.{first, more}
@@ -82,9 +84,9 @@ front_room size h p =
 -- ── the serial's bytes ──
 
 -- what was written is what is due
-pub done_due : {s : Said} {old new : List ℕ} {r : Written} {n : ℕ} → r ≡ written.Done n → Wrote s old (says_written r) new → (n ≤ length old) × (n ≤ length new) × (s ≡ says (take n new))
+pub done_due : {s : Said} {old new : List ℕ} {r : (Result ℕ Refusal)} {n : ℕ} → r ≡ Ok n → Wrote s old (says_count r) new → (n ≤ length old) × (n ≤ length new) × (s ≡ says (take n new))
 done_due {s} {old} {new} {r} {n} e w =
-    let d = whole (subst (λ x. Wrote s old (says_written x) new) e w) in
+    let d = whole (subst (λ x. Wrote s old (says_count x) new) e w) in
     let size = ap length d.left ∙ length-append d.bs (drop (length d.bs) old) in
     (omega (arith, d.fits, d.count), omega (arith, size, d.count), d.due ∙ ap says (sym (ap (take n) d.left ∙ take_at d.bs (drop (length d.bs) old) n (sym d.count))))
 
@@ -94,8 +96,8 @@ serial_short true us bs e = let s = said_text us bs e in omega (arith, ap length
 serial_short false us bs e = let is : [] ≡ bs = cc in omega (arith, ap length is)
 
 -- so a serial that was refused was not for its room
-pub serial_refused : (own : Bool) (us : List ℕ) {old new : List ℕ} {r : Written} {t : Told} → r ≡ written.Refused t → 511 ≤ length old → Wrote (serial_said own us) old (says_written r) new → serial_said own us ≡ no t
-serial_refused own us {old} {new} {r} {t} e room w = of (kept (subst (λ x. Wrote (serial_said own us) old (says_written x) new) e w)).1
+pub serial_refused : (own : Bool) (us : List ℕ) {old new : List ℕ} {r : (Result ℕ Refusal)} {t : Told} → r ≡ Err t → 511 ≤ length old → Wrote (serial_said own us) old (says_count r) new → serial_said own us ≡ no t
+serial_refused own us {old} {new} {r} {t} e room w = of (kept (subst (λ x. Wrote (serial_said own us) old (says_count x) new) e w)).1
   where
     of : Kept (serial_said own us) old t → serial_said own us ≡ no t
     of (not_due d) = d

@@ -1,5 +1,6 @@
 -- `store` answers as specs/StoreSays has it, from the row's own refusal to the bytes of the new row; and what is said there determines the answer and the output.
 -- Assumes nothing.
+use Rattle.std.specs.Prelude.{Err}
 use mathlib.Core.Path.{◌≡◌, refl, ap, sym, ◌∙◌}
 use mathlib.Core.Bool.{Bool, true, false}
 use mathlib.Core.List.{List, [], ◌∷◌, ◌++◌}
@@ -15,13 +16,12 @@ use Rattle.layout.proofs.laws.Numbers.{zero_one}
 use Rattle.settings.specs.Layout.{Key, Setting, same_key, holds, IsEntry, IsRow, limit}
 use Rattle.settings.specs.Entry.{alone_in, setting_in}
 use Rattle.settings.specs.Refusals.{FULL}
-use Rattle.settings.specs.Row.{settings_in, row_of, says_checked}
+use Rattle.settings.specs.Row.{settings_in, row_of, count_read}
 use Rattle.settings.specs.RowSays.{Held, here, later}
 use Rattle.settings.specs.Store.{put, row_word, is_full, put_said, store_said, settings_of, setting_of}
 use Rattle.settings.specs.StoreSays.{Stored, last, in_place, NewRow, StoreSays, of_row, of_entry, full, no_room, goes_in}
 use Rattle.settings.specs.declared.entry.Edition.{Edition}
 use Rattle.settings.specs.declared.entry.Entry.{Entry}
-use Rattle.layout.specs.declared.Checked.TheVariants as checked
 use Rattle.settings.proofs.Exact.{entries_word, row_complete, row_sound, alone_sound, alone_complete}
 use Rattle.settings.proofs.Judged.{alone_judged, alone_one}
 use Rattle.settings.proofs.RowSays.{not_held, not_holding, row_says, row_one}
@@ -123,15 +123,15 @@ module _ (e : Edition) (s w : List ℕ) (hs : Bytes s) (hw : Bytes w) (old new :
       go (got xs n) i = entry_says (settings_in s xs) (row_sound e s hs xs n i) (alone_in e w) refl
       go (refused t) i =
           let a = refuses promised {t = t} (rw i) in
-          rw (a.0, a.1) (of_row (row_says e s hs (checked.Refused t) (ap says_checked (sym i))))
+          rw (a.0, a.1) (of_row (row_says e s hs (Err t) (ap count_read (sym i))))
 
   -- ── and no other answer, and no other output, is said of the same inputs ──
 
-  row_refused : {t : Told} → says_checked (row_of e s) ≡ checked.Refused t → store_said (settings_of e s) (setting_of e w) ≡ no t
+  row_refused : {t : Told} → count_read (row_of e s) ≡ Err t → store_said (settings_of e s) (setting_of e w) ≡ no t
   unfolding store_said means
   row_refused {t} f = go (row_of e s) f
     where
-      go : (y : Answer (List Entry)) → says_checked y ≡ checked.Refused t → store_said (means (settings_in s) y) (setting_of e w) ≡ no t
+      go : (y : Answer (List Entry)) → count_read y ≡ Err t → store_said (means (settings_in s) y) (setting_of e w) ≡ no t
       go (got xs n) f = zero_one (cc)
       go (refused u) f = cc
 

@@ -17,13 +17,13 @@ use Rattle.settings.specs.Refusals.{FULL}
 use Rattle.settings.specs.Layout.{ANY, OWN, Key, Setting, same_key, holds, IsEntry, Entries, one_more, IsRow}
 use Rattle.settings.specs.Layout as layout
 use Rattle.settings.specs.Entry.{alone_in, key_in, setting_in}
-use Rattle.settings.specs.Row.{settings_in, row_of, any_key, own_key, first_by, or_else, find_by, says_held, find_in, found_in, Finds, held, not_held}
+use Rattle.settings.specs.Row.{settings_in, row_of, any_key, own_key, first_by, or_else, find_by, says_held, Found, find_in, found_in, Finds, held, not_held}
 use Rattle.settings.specs.Store.{put, row_word, is_full, put_said, store_said, settings_of, setting_of}
 use Rattle.settings.specs.declared.entry.Edition.{Edition}
 use Rattle.settings.specs.declared.entry.Edition.TheVariants as edition
 use Rattle.settings.specs.declared.entry.Entry.{Entry}
-use Rattle.settings.specs.declared.row.Found.{Found}
-use Rattle.settings.specs.declared.row.Found.TheVariants as found
+use Rattle.std.specs.Prelude.{Ok}
+use Rattle.std.specs.declared.option.Option.TheVariants.{Some}
 use Rattle.settings.proofs.Rows.{false_same}
 use Rattle.settings.proofs.Puts.{key_of, holds_other, put_distinct, put_few, first_own, first_none}
 use Rattle.settings.proofs.Exact.{entries_word, row_complete, row_sound, alone_sound}
@@ -69,7 +69,7 @@ found_by e s rs n f v p us = go (row_of e s) f
     go (refused t) f = zero_one (cc)
 
 -- a reading that is found is that of an entry
-pub held_is : {s : List ℕ} {y : Found} {o : Option Setting} {r : Setting} → Finds s y o → o ≡ some r → (x : Entry) × (y ≡ found.Held x) × (setting_in s x ≡ r)
+pub held_is : {s : List ℕ} {y : Found} {o : Option Setting} {r : Setting} → Finds s y o → o ≡ some r → (x : Entry) × (y ≡ Ok (Some x)) × (setting_in s x ≡ r)
 held_is (held {x}) i = (x, refl, cc)
 held_is not_held i = zero_one (cc)
 
@@ -125,24 +125,24 @@ module _ {e : Edition} {s w t : List ℕ} {rs : List Setting} {r : Setting} (st 
 
   -- ── found after stored ──
 
-  pub found_after_stored : (vendor property : ℕ) (serial : List ℕ) → find_by key_of e vendor property serial (put r rs) ≡ some r → (x : Entry) × (found_in e vendor property serial t ≡ found.Held x) × (setting_in t x ≡ r)
+  pub found_after_stored : (vendor property : ℕ) (serial : List ℕ) → find_by key_of e vendor property serial (put r rs) ≡ some r → (x : Entry) × (found_in e vendor property serial t ≡ Ok (Some x)) × (setting_in t x ≡ r)
   found_after_stored v p us f = held_is (found_by e t (put r rs) (length t) stored_reads v p us) f
 
 -- an entry for one serial, by that serial
 pub own_found : {s w t : List ℕ} {rs : List Setting} {r : Setting} → Stores edition.Two s w t rs r → (vendor property : ℕ) (serial : List ℕ) → r.key ≡ own_key vendor property serial
-    → (x : Entry) × (found_in edition.Two vendor property serial t ≡ found.Held x) × (setting_in t x ≡ r)
+    → (x : Entry) × (found_in edition.Two vendor property serial t ≡ Ok (Some x)) × (setting_in t x ≡ r)
 own_found {rs} {r} st v p us k = found_after_stored st v p us (rw (ap (λ j. first_by key_of j (put r rs)) (sym k) ∙ first_own r rs))
 
 -- an entry for any serial: in edition 1, and in edition 2 for every serial that has no entry of its own
 pub any_found_one : {s w t : List ℕ} {rs : List Setting} {r : Setting} → Stores edition.One s w t rs r → (vendor property : ℕ) (serial : List ℕ) → r.key ≡ any_key vendor property
-    → (x : Entry) × (found_in edition.One vendor property serial t ≡ found.Held x) × (setting_in t x ≡ r)
+    → (x : Entry) × (found_in edition.One vendor property serial t ≡ Ok (Some x)) × (setting_in t x ≡ r)
 any_found_one {rs} {r} st v p us k = found_after_stored st v p us (ap (λ j. first_by key_of j (put r rs)) (sym k) ∙ first_own r rs)
 
 not_own : (r : Setting) (v p : ℕ) (us : List ℕ) → r.key ≡ any_key v p → same_key (own_key v p us) r.key ≡ false
 not_own r v p us k = false_same (own_key v p us) r.key (λ i. let z : OWN ≡ ANY = ap (λ j. j.kind) (i ∙ k) in let f : ⊥ = omega (arith, z) in f)
 
 pub any_found_two : {s w t : List ℕ} {rs : List Setting} {r : Setting} → Stores edition.Two s w t rs r → (vendor property : ℕ) (serial : List ℕ) → r.key ≡ any_key vendor property → holds (own_key vendor property serial) rs ≡ false
-    → (x : Entry) × (found_in edition.Two vendor property serial t ≡ found.Held x) × (setting_in t x ≡ r)
+    → (x : Entry) × (found_in edition.Two vendor property serial t ≡ Ok (Some x)) × (setting_in t x ≡ r)
 any_found_two {rs} {r} st v p us k n =
     let none_own : first_by key_of (own_key v p us) (put r rs) ≡ none = first_none (own_key v p us) (put r rs) (holds_other (own_key v p us) r rs (not_own r v p us k) ∙ n) in
     found_after_stored st v p us (rw none_own (ap (λ j. first_by key_of j (put r rs)) (sym k) ∙ first_own r rs))

@@ -1,5 +1,6 @@
 -- Storing and removing by copies. Up to the place where the key stands, or the end, the bytes are the words of the entries before it; from where that entry ends, the words of those after it.
 -- Assumes nothing.
+use Rattle.std.specs.Prelude.{Ok, Err}
 use mathlib.Core.Path.{◌≡◌, refl, ap, sym, ◌∙◌, subst}
 use mathlib.Core.Bool.{Bool, true, false}
 use mathlib.Core.List.{List, [], ◌∷◌, ◌++◌, append_assoc}
@@ -26,12 +27,11 @@ use Rattle.wire.proofs.laws.Located.{filled_end}
 use Rattle.settings.specs.Refusals.{FULL}
 use Rattle.settings.specs.Layout.{Key, Keyed, Setting, same_key, holds, limit}
 use Rattle.settings.specs.Entry.{whole_at, is_tidy, tidy_at, entry_at, alone_in, key_slot, key_in, setting_in}
-use Rattle.settings.specs.Row.{settings_in, row_of, says_checked, Whole, first_by}
+use Rattle.settings.specs.Row.{settings_in, row_of, count_read, Whole, first_by}
 use Rattle.settings.specs.Search.{Chain, stop, link, place_of, Seeks, end_from, end_of, told_end}
 use Rattle.settings.specs.Store.{put, without, entry_word, row_word, is_full, put_said, store_said, remove_said, settings_of, setting_of}
 use Rattle.settings.specs.declared.entry.Edition.{Edition}
 use Rattle.settings.specs.declared.entry.Entry.{Entry}
-use Rattle.layout.specs.declared.Checked.TheVariants as checked
 use Rattle.settings.proofs.Spelled.{Spelt, entry_sound, entry-word}
 use Rattle.settings.proofs.Rows.{forward, end_spelt, key-word, held_place, new-place}
 use Rattle.settings.proofs.Puts.{ahead_of, past, put_cut, without_cut}
@@ -264,11 +264,11 @@ module _ {e : Edition} {s w : List ℕ} {count : ℕ} {x : Entry} {p : ℕ} (k :
 
 -- ── refused ──
 
-pub stored_row_refused : (e : Edition) (s w : List ℕ) {t : Told} → says_checked (row_of e s) ≡ checked.Refused t → {out : List ℕ} → Wrote (store_said (settings_of e s) (setting_of e w)) out (refused t) out
+pub stored_row_refused : (e : Edition) (s w : List ℕ) {t : Told} → count_read (row_of e s) ≡ Err t → {out : List ℕ} → Wrote (store_said (settings_of e s) (setting_of e w)) out (refused t) out
 unfolding store_said means
 stored_row_refused e s w {t} f {out} = go (row_of e s) f
   where
-    go : (y : Answer (List Entry)) → says_checked y ≡ checked.Refused t → Wrote (store_said (means (settings_in s) y) (setting_of e w)) out (refused t) out
+    go : (y : Answer (List Entry)) → count_read y ≡ Err t → Wrote (store_said (means (settings_in s) y) (setting_of e w)) out (refused t) out
     go (got xs n) f = zero_one (cc)
     go (refused u) f = refusal (cc)
 
@@ -276,14 +276,14 @@ pub stored_entry_refused : (e : Edition) (s w : List ℕ) (count : ℕ) → Whol
 unfolding store_said means
 stored_entry_refused e s w count g {t} f {out} = go (row_of e s) g
   where
-    go : (y : Answer (List Entry)) → says_checked y ≡ checked.Whole count → Wrote (store_said (means (settings_in s) y) (means (setting_in w) (alone_in e w))) out (refused t) out
+    go : (y : Answer (List Entry)) → count_read y ≡ Ok count → Wrote (store_said (means (settings_in s) y) (means (setting_in w) (alone_in e w))) out (refused t) out
     go (got xs n) g = refusal (rw (← f))
     go (refused u) g = zero_one (cc)
 
-pub removed_refused : (e : Edition) (s : List ℕ) (k : Key) {t : Told} → says_checked (row_of e s) ≡ checked.Refused t → {out : List ℕ} → Wrote (remove_said (settings_of e s) k) out (refused t) out
+pub removed_refused : (e : Edition) (s : List ℕ) (k : Key) {t : Told} → count_read (row_of e s) ≡ Err t → {out : List ℕ} → Wrote (remove_said (settings_of e s) k) out (refused t) out
 unfolding remove_said means
 removed_refused e s k {t} f {out} = go (row_of e s) f
   where
-    go : (y : Answer (List Entry)) → says_checked y ≡ checked.Refused t → Wrote (remove_said (means (settings_in s) y) k) out (refused t) out
+    go : (y : Answer (List Entry)) → count_read y ≡ Err t → Wrote (remove_said (means (settings_in s) y) k) out (refused t) out
     go (got xs n) f = zero_one (cc)
     go (refused u) f = refusal (cc)

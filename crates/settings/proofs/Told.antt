@@ -1,6 +1,7 @@
 -- Which refusals of the settings have a place: 1 and 2 and no other; and it lies in the bytes that were lent, the row's for the row's entries and the new entry's for that one.
 -- Each reader goes from field to field, so a line of the byte layer's laws a field is the whole argument. An entry's bytes are a front of the row's.
 -- Assumes nothing.
+use Rattle.wire.specs.Read.{Read, says_read}
 use mathlib.Core.Path.{◌≡◌, subst}
 use mathlib.Core.Bool.{Bool, true, false}
 use mathlib.Core.List.{List, [], ◌∷◌, ◌++◌}
@@ -20,12 +21,11 @@ use Rattle.wire.specs.Places.{filled_at}
 use Rattle.wire.proofs.laws.Told.{text_telling, shape_telling}
 use Rattle.settings.specs.Refusals.{EDITION, FULL}
 use Rattle.settings.specs.Layout.{OWN, knows, Setting, holds, limit}
-use Rattle.settings.specs.Entry.{serial_at, typed_at, fields_at, rest_at, whole_at, is_tidy, tidy_at, entry_at, alone_in, key_in, setting_in, says_entry}
+use Rattle.settings.specs.Entry.{serial_at, typed_at, fields_at, rest_at, whole_at, is_tidy, tidy_at, entry_at, alone_in, key_in, setting_in}
 use Rattle.settings.specs.Row.{settings_in, row_from, row_of}
 use Rattle.settings.specs.Store.{put, row_word, is_full, put_said, store_said, settings_of, setting_of}
 use Rattle.settings.specs.declared.entry.Edition.{Edition}
 use Rattle.settings.specs.declared.entry.Entry.{Entry}
-use Rattle.settings.specs.declared.entry.ReadEntry.{ReadEntry}
 
 module _ {P : ℕ → Type 0} (s : List ℕ) (closed : Closed P s) where
   serial_telling : (kind at : ℕ) → P at → Telling P (serial_at kind s at)
@@ -90,7 +90,7 @@ module _ {P : ℕ → Type 0} (s : List ℕ) (closed : Closed P s) where
 -- ── of the functions' own answers ──
 
 module _ (e : Edition) (s : List ℕ) where
-  pub entry_told : (at : ℕ) → at ≤ length s → (r : ReadEntry) → says_entry r ≡ entry_at e s at → PlacedExactly (says_entry r) × Inside (length s) (says_entry r)
+  pub entry_told : (at : ℕ) → at ≤ length s → (r : (Read Entry)) → says_read r ≡ entry_at e s at → PlacedExactly (says_read r) × Inside (length s) (says_read r)
   entry_told at h r promised =
       (telling_exactly (telling_same promised (entry_telling s (everywhere s) e at tt)), telling_inside (telling_same promised (entry_telling s (up_to s (omega arith)) e at h)))
 

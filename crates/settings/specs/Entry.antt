@@ -1,5 +1,7 @@
 -- One entry as it is read, test by test in the paper's order, and what its places mean.
 -- Assumes nothing.
+use Rattle.std.specs.Prelude.{Ok, Err}
+use Rattle.wire.specs.Read.{Read}
 use Rattle.std.specs.Prelude.{Bool, true, false, List, ℕ, ◌+◌, ◌-◌, ◌≤◌, leb, eqb, length, take, get_or}
 use Rattle.layout.specs.Answer.{Answer, got, refused, Reader, pick, after, bare, span_at}
 use Rattle.layout.specs.Refusals.{TRAIL, RECORD}
@@ -12,8 +14,6 @@ use Rattle.settings.specs.Refusals.{EDITION}
 use Rattle.settings.specs.Layout.{OWN, knows, Key, Setting}
 use Rattle.settings.specs.declared.entry.Edition.{Edition}
 use Rattle.settings.specs.declared.entry.Entry.{Entry}
-use Rattle.settings.specs.declared.entry.ReadEntry.{ReadEntry}
-use Rattle.settings.specs.declared.entry.ReadEntry.TheVariants as read_entry
 
 -- ── the fields, in bytes that end with the entry ──
 
@@ -101,10 +101,6 @@ abbrev pub setting_in : List ℕ → Entry → Setting
 setting_in s x = record { key = key_in s x; type = x.code; value = slot_in x.code s x.value }
 
 -- ── this paper's values for each case ──
-
-abbrev pub says_entry : ReadEntry → Answer Entry
-says_entry (read_entry.Got x c) = got x c.at
-says_entry (read_entry.Refused t) = refused t
 
 -- where its parts stand, that the code may take them
 pub record Within (s : List ℕ) (x : Entry) : Type 0 where

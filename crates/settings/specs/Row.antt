@@ -1,5 +1,10 @@
 -- A row of entries as it is read, entry by entry from its first byte to its last; and what it holds for a question.
 -- Assumes nothing.
+use Rattle.std.specs.declared.option.Option as declared
+use Rattle.std.specs.declared.option.Option.TheVariants.{Some, None}
+use Rattle.std.specs.Prelude.{Ok, Err}
+use Rattle.std.specs.declared.result.Result.{Result}
+use Rattle.layout.specs.declared.Refusal.{Refusal}
 use Rattle.std.specs.Prelude.{◌≡◌, Bool, List, [], ◌∷◌, ◌++◌, map, ℕ, zero, suc, leb, ltb, length}
 use Rattle.std.proofs.Math.Option.{Option, some, none}
 use Rattle.layout.specs.Answer.{Answer, got, refused, Reader, pick, after, bare}
@@ -10,10 +15,6 @@ use Rattle.settings.specs.Entry.{entry_at, key_in, setting_in}
 use Rattle.settings.specs.declared.entry.Edition.{Edition}
 use Rattle.settings.specs.declared.entry.Edition.TheVariants as edition
 use Rattle.settings.specs.declared.entry.Entry.{Entry}
-use Rattle.layout.specs.declared.Checked.{Checked}
-use Rattle.layout.specs.declared.Checked.TheVariants as checked
-use Rattle.settings.specs.declared.row.Found.{Found}
-use Rattle.settings.specs.declared.row.Found.TheVariants as found
 
 -- ── the entries from end to end, or the first refusal ──
 
@@ -35,13 +36,13 @@ row_from e (suc fuel) xs s at =
 unfoldable pub row_of : Edition → List ℕ → Answer (List Entry)
 row_of e s = row_from e (length s) [] s 0
 
-abbrev pub says_checked : Answer (List Entry) → Checked
-says_checked (got xs n) = checked.Whole (length xs)
-says_checked (refused t) = checked.Refused t
+abbrev pub count_read : Answer (List Entry) → Result ℕ Refusal
+count_read (got xs n) = Ok (length xs)
+count_read (refused t) = Err t
 
 -- the row is accepted, with so many entries
 abbrev pub Whole : Edition → List ℕ → ℕ → Type 0
-Whole e s count = says_checked (row_of e s) ≡ checked.Whole count
+Whole e s count = count_read (row_of e s) ≡ Ok count
 
 -- ── what is found: of entries, and of their readings alike ──
 
@@ -69,18 +70,22 @@ abbrev pub find_by : {A : Type 0} → (A → Key) → Edition → ℕ → ℕ �
 find_by key edition.One vendor property serial xs = first_by key (any_key vendor property) xs
 find_by key edition.Two vendor property serial xs = or_else (first_by key (own_key vendor property serial) xs) (first_by key (any_key vendor property) xs)
 
+-- what is answered of an entry that is looked for: it, or none, or why the row is refused
+abbrev pub Found : Type 0
+Found = Result (declared.Option Entry) Refusal
+
 abbrev pub says_held : Option Entry → Found
-says_held (some x) = found.Held x
-says_held none = found.NotHeld
+says_held (some x) = Ok (Some x)
+says_held none = Ok None
 
 unfoldable pub find_in : Edition → ℕ → ℕ → List ℕ → List ℕ → Answer (List Entry) → Found
 find_in e vendor property serial s (got xs n) = says_held (find_by (key_in s) e vendor property serial xs)
-find_in e vendor property serial s (refused t) = found.Refused t
+find_in e vendor property serial s (refused t) = Err t
 
 abbrev pub found_in : Edition → ℕ → ℕ → List ℕ → List ℕ → Found
 found_in e vendor property serial s = find_in e vendor property serial s (row_of e s)
 
 -- what an answer says is found in the bytes: the reading of an entry that stands there, or none
 pub data Finds (s : List ℕ) : Found → Option Setting → Type 0 where
-  held : {x : Entry} → Finds s (found.Held x) (some (setting_in s x))
-  not_held : Finds s found.NotHeld none
+  held : {x : Entry} → Finds s (Ok (Some x)) (some (setting_in s x))
+  not_held : Finds s (Ok None) none

@@ -1,10 +1,13 @@
 -- What the inner functions promise: entries that were accepted, gone through again, and where among them one with a key stands.
 -- Assumes nothing.
+use Rattle.std.specs.declared.option.Option as declared
+use Rattle.std.specs.declared.option.Option.TheVariants.{Some, None}
+use Rattle.std.specs.Prelude.{Ok, Err}
+use Rattle.std.specs.declared.result.Result.{Result}
+use Rattle.layout.specs.declared.Refusal.{Refusal}
 use Rattle.std.specs.Prelude.{◌≡◌, Bool, true, List, [], ◌∷◌, ℕ, ◌+◌, ◌≤◌, ltb, length, take, drop}
 use Rattle.layout.specs.Answer.{Told, Answer, got, refused, pick}
 use Rattle.layout.specs.Grammar.{tidy}
-use Rattle.layout.specs.declared.Written.{Written}
-use Rattle.layout.specs.declared.Written.TheVariants as written
 use Rattle.wire.specs.Places.{num_at}
 use Rattle.settings.specs.Layout.{Key, Keyed, same_key}
 use Rattle.settings.specs.Entry.{entry_at, key_in}
@@ -12,8 +15,6 @@ use Rattle.settings.specs.Row.{any_key, own_key}
 use Rattle.settings.specs.declared.entry.Edition.{Edition}
 use Rattle.settings.specs.declared.entry.Edition.TheVariants as edition
 use Rattle.settings.specs.declared.entry.Entry.{Entry}
-use Rattle.settings.specs.declared.row.Found.{Found}
-use Rattle.settings.specs.declared.row.Found.TheVariants as found
 
 -- whether these stand there
 abbrev pub TellsAt : List ℕ → ℕ → List ℕ → Bool → Type 0
@@ -45,9 +46,9 @@ Seeks s upto w r = (k : Key) → Keyed tidy w k → Places s upto k r
 -- ── the key that a question asks for ──
 
 -- what writing a key's word answers, and leaves: the bytes at the front are its word; or no bytes are
-pub data Spells (k : Key) (out : List ℕ) : Written → Type 0 where
-  word_of : {n : ℕ} → n ≤ length out → Keyed tidy (take n out) k → Spells k out (written.Done n)
-  no_word : {t : Told} → ((w : List ℕ) → Keyed tidy w k → ⊥) → Spells k out (written.Refused t)
+pub data Spells (k : Key) (out : List ℕ) : (Result ℕ Refusal) → Type 0 where
+  word_of : {n : ℕ} → n ≤ length out → Keyed tidy (take n out) k → Spells k out (Ok n)
+  no_word : {t : Told} → ((w : List ℕ) → Keyed tidy w k → ⊥) → Spells k out (Err t)
 
 -- the place of the entry that is found, by the order of `find_by`
 unfoldable pub best_of : Edition → ℕ → ℕ → List ℕ → List ℕ → List Entry → ℕ
@@ -63,12 +64,12 @@ pub record Best (e : Edition) (vendor property : ℕ) (serial s : List ℕ) (r :
 -- ── what stands at a place ──
 
 -- the entry that starts there; none at the end
-abbrev pub held_from : Answer Entry → Found
-held_from (got x n) = found.Held x
-held_from (refused t) = found.NotHeld
+abbrev pub held_from : Answer Entry → declared.Option Entry
+held_from (got x n) = Some x
+held_from (refused t) = None
 
-unfoldable pub held_at : Edition → List ℕ → ℕ → Found
-held_at e s at = pick (ltb at (length s)) (held_from (entry_at e s at)) found.NotHeld
+unfoldable pub held_at : Edition → List ℕ → ℕ → declared.Option Entry
+held_at e s at = pick (ltb at (length s)) (held_from (entry_at e s at)) None
 
 -- where it ends; the place itself where none starts
 abbrev pub end_from : ℕ → Answer Entry → ℕ

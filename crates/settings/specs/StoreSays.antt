@@ -1,6 +1,7 @@
 -- What `store` answers, by the paper's words and the grammar: the row's own refusal, then the new entry's own, alone in its bytes; 18 only when 256 other entries are held; then 9; else the
 -- row in which the entry stands in place of the one that had its key, or last. No reader and no writer stands here.
 -- Assumes nothing.
+use Rattle.std.specs.Prelude.{Err}
 use Rattle.std.specs.Prelude.{◌≡◌, List, [], ◌∷◌, ◌++◌, ℕ, ◌≤◌, ◌<◌, length, drop}
 use Rattle.layout.specs.Answer.{Told, Answer, got, refused, bare}
 use Rattle.layout.specs.Refusals.{ROOM}
@@ -9,7 +10,6 @@ use Rattle.settings.specs.Refusals.{FULL}
 use Rattle.settings.specs.Refused.{AloneSays}
 use Rattle.settings.specs.RowSays.{Held, RowSays}
 use Rattle.settings.specs.declared.entry.Edition.{Edition}
-use Rattle.layout.specs.declared.Checked.TheVariants as checked
 
 -- the readings after it
 pub data Stored (r : Setting) : List Setting → List Setting → Type 0 where
@@ -31,7 +31,7 @@ pub record NewRow (e : Edition) (row entry w : List ℕ) : Type 0 where
 -- the answer, and what is left of the output
 pub data StoreSays (e : Edition) (row entry old : List ℕ) : Answer (Unit {0}) → List ℕ → Type 0 where
   -- the row's own
-  of_row : {t : Told} → RowSays e row (checked.Refused t) → StoreSays e row entry old (refused t) old
+  of_row : {t : Told} → RowSays e row (Err t) → StoreSays e row entry old (refused t) old
   -- the new entry's own
   of_entry : {rs : List Setting} {t : Told} → IsRow e row rs → AloneSays e entry (refused t) → StoreSays e row entry old (refused t) old
   -- 18: 256 entries are held, and none has its key

@@ -1,12 +1,12 @@
 // One entry, read test by test in the paper's order.
+ghost use Rattle.wire.specs.Read.{says_read};
 ghost use Rattle.std.specs.Prelude.{◌≡◌, ◌+◌, ◌≤◌, length};
 ghost use Rattle.wire.specs.Property.{bytes_of};
-ghost use Rattle.wire.specs.Says.{says_part};
 ghost use Rattle.settings.specs.Layout.{knows};
-ghost use Rattle.settings.specs.Entry.{serial_at, typed_at, fields_at, rest_at, whole_at, tidy_text, serial_tidy, word_tidy, value_tidy, is_tidy, tidy_at, entry_at, alone_in, says_entry, key_slot, Within};
+ghost use Rattle.settings.specs.Entry.{serial_at, typed_at, fields_at, rest_at, whole_at, tidy_text, serial_tidy, word_tidy, value_tidy, is_tidy, tidy_at, entry_at, alone_in, key_slot, Within};
 
 use layout::Refusal;
-use wire::{Cursor, Part, ReadPart, ReadU16, ReadU32, ReadValue, Slot, Span};
+use wire::{Cursor, Part, Read, Slot};
 
 // Which kinds are known: 16 in the first, 16 and 17 in the second.
 #[derive(Clone, Copy)]
@@ -27,12 +27,6 @@ pub struct Entry {
     pub value: Slot,
 }
 
-#[derive(Drop)]
-pub enum ReadEntry {
-    Got(Entry, Cursor),
-    Refused(Refusal),
-}
-
 fn is_known(edition: Edition, kind: u16) -> bool
     ensures { result ≡ knows edition kind }
 {
@@ -48,22 +42,24 @@ fn is_known(edition: Edition, kind: u16) -> bool
     }
 }
 
-fn serial_at(kind: u16, s: &[u8], at: usize) -> ReadPart
-    ensures { says_part result ≡ serial_at kind s.now at }
+#[tactic(auto, unfolding(crate::specs::Entry::serial_at))]
+fn serial_at(kind: u16, s: &[u8], at: usize) -> Read<Part>
+    ensures { says_read result ≡ serial_at kind s.now at }
 {
     if kind != crate::OWN {
-        return ReadPart::Got(
+        return Ok((
             Part {
                 start: at,
                 count: 0,
             },
             Cursor { at },
-        );
+        ));
     }
     (Cursor { at }).text(s)
 }
 
 // Type and value, after the key.
+#[tactic(auto, unfolding(crate::specs::Entry::typed_at, layout::specs::Answer::after))]
 fn typed_at(
     start: usize,
     kind: u16,
@@ -72,90 +68,73 @@ fn typed_at(
     serial: Part,
     s: &[u8],
     at: usize,
-) -> ReadEntry
-    ensures { says_entry result ≡ typed_at start kind vendor property serial s.now at }
+) -> Read<Entry>
+    ensures { says_read result ≡ typed_at start kind vendor property serial s.now at }
 {
-    match (Cursor { at }).u16(s) {
-        ReadU16::Got(code, a) => match a.value(s, code) {
-            ReadValue::Got(_, next) => ReadEntry::Got(
-                Entry {
-                    start,
-                    kind,
-                    vendor,
-                    property,
-                    serial,
-                    code,
-                    value: Slot {
-                        start: a.at,
-                        len: next.at - a.at,
-                    },
-                },
-                next,
-            ),
-            ReadValue::Refused(f) => ReadEntry::Refused(f),
+    let (code, from) = Cursor { at }.u16(s)?;
+    let (_, next) = from.value(s, code)?;
+    let len = next.at - from.at;
+    let value = Slot {
+        start: from.at,
+        len,
+    };
+    Ok((
+        Entry {
+            start,
+            kind,
+            vendor,
+            property,
+            serial,
+            code,
+            value,
         },
-        ReadU16::Refused(f) => ReadEntry::Refused(f),
-    }
+        next,
+    ))
 }
 
 // The fields after the kind, in bytes that end with the entry.
-fn fields_at(start: usize, kind: u16, s: &[u8], at: usize) -> ReadEntry
-    ensures { says_entry result ≡ fields_at start kind s.now at }
+#[tactic(auto, unfolding(crate::specs::Entry::fields_at, layout::specs::Answer::after))]
+fn fields_at(start: usize, kind: u16, s: &[u8], at: usize) -> Read<Entry>
+    ensures { says_read result ≡ fields_at start kind s.now at }
 {
-    match (Cursor { at }).u32(s) {
-        ReadU32::Got(vendor, a) => match a.u16(s) {
-            ReadU16::Got(property, b) => match serial_at(kind, s, b.at) {
-                ReadPart::Got(serial, c) => {
-                    typed_at(start, kind, vendor, property, serial, s, c.at)
-                }
-                ReadPart::Refused(f) => ReadEntry::Refused(f),
-            },
-            ReadU16::Refused(f) => ReadEntry::Refused(f),
-        },
-        ReadU32::Refused(f) => ReadEntry::Refused(f),
-    }
+    let (vendor, next) = Cursor { at }.u32(s)?;
+    let (property, key) = next.u16(s)?;
+    let (serial, c) = serial_at(kind, s, key.at)?;
+    typed_at(start, kind, vendor, property, serial, s, c.at)
 }
 
 // What follows the six bytes of an entry of that length and kind.
-fn rest_at(start: usize, len: u32, kind: u16, s: &[u8], at: usize) -> ReadEntry
+#[tactic(auto, unfolding(crate::specs::Entry::rest_at, layout::specs::Answer::after), using(layout::proofs::laws::Make::span_there, layout::proofs::laws::Make::span_short))]
+fn rest_at(start: usize, len: u32, kind: u16, s: &[u8], at: usize) -> Read<Entry>
     requires { at ≤ length s.now }
-    ensures { says_entry result ≡ rest_at start len kind s.now at }
+    ensures { says_read result ≡ rest_at start len kind s.now at }
 {
     if len < 6 {
-        return ReadEntry::Refused(layout::plain(layout::RECORD));
+        return Err(layout::plain(layout::RECORD));
     }
     let count = (len - 6) as usize;
     if s.len() - at < count {
-        return ReadEntry::Refused(layout::end_at(at));
+        return Err(layout::end_at(at));
     }
     let end = at + count;
-    match fields_at(start, kind, &s[..end], at) {
-        ReadEntry::Got(x, next) => {
-            if next.at != end {
-                return ReadEntry::Refused(layout::plain(layout::TRAIL));
-            }
-            ReadEntry::Got(x, next)
-        }
-        ReadEntry::Refused(f) => ReadEntry::Refused(f),
+    let (x, next) = fields_at(start, kind, &s[..end], at)?;
+    if next.at != end {
+        return Err(layout::plain(layout::TRAIL));
     }
+    Ok((x, next))
 }
 
 // The entry at a place, by all tests but the last.
-fn whole_at(edition: Edition, s: &[u8], at: usize) -> ReadEntry
-    ensures { says_entry result ≡ whole_at edition s.now at }
+#[tactic(auto, unfolding(crate::specs::Entry::whole_at, layout::specs::Answer::after))]
+fn whole_at(edition: Edition, s: &[u8], at: usize) -> Read<Entry>
+    ensures { says_read result ≡ whole_at edition s.now at }
 {
-    match (Cursor { at }).u32(s) {
-        ReadU32::Got(len, a) => match a.u16(s) {
-            ReadU16::Got(kind, b) => {
-                if !is_known(edition, kind) {
-                    return ReadEntry::Refused(layout::plain(crate::EDITION));
-                }
-                rest_at(at, len, kind, s, b.at)
-            }
-            ReadU16::Refused(f) => ReadEntry::Refused(f),
-        },
-        ReadU32::Refused(f) => ReadEntry::Refused(f),
+    let (len, next) = Cursor { at }.u32(s)?;
+    let (kind, rest) = next.u16(s)?;
+    if !is_known(edition, kind) {
+        return Err(layout::plain(crate::EDITION));
     }
+    rest_at(at, len, kind, s, rest.at)
 }
 
 // Of a string's bytes: its count is not 1, and its last unit is 0.
@@ -216,14 +195,15 @@ fn is_tidy(s: &[u8], x: Entry) -> bool
 }
 
 // An entry that was read, unless it is untidy.
-fn tidy_at(s: &[u8], x: Entry, next: Cursor) -> ReadEntry
+#[tactic(auto, unfolding(crate::specs::Entry::tidy_at))]
+fn tidy_at(s: &[u8], x: Entry, next: Cursor) -> Read<Entry>
     requires { Within s.now x }
-    ensures { says_entry result ≡ tidy_at s.now x next.at }
+    ensures { says_read result ≡ tidy_at s.now x next.at }
 {
     if !is_tidy(s, x) {
-        return ReadEntry::Refused(layout::plain(layout::RECORD));
+        return Err(layout::plain(layout::RECORD));
     }
-    ReadEntry::Got(x, next)
+    Ok((x, next))
 }
 
 // The bytes of an entry's key: from behind its length up to its type. Two entries have one key exactly where these are the same.
@@ -237,24 +217,20 @@ pub(crate) fn key_of<'a>(s: &'a [u8], x: Entry) -> &'a [u8]
 }
 
 // The entry at a place. Its places, and that of a refusal, count in the bytes that are lent.
-pub fn entry_at(edition: Edition, s: &[u8], at: usize) -> ReadEntry
-    ensures { says_entry result ≡ entry_at edition s.now at }
+#[tactic(auto, unfolding(crate::specs::Entry::entry_at, layout::specs::Answer::after))]
+pub fn entry_at(edition: Edition, s: &[u8], at: usize) -> Read<Entry>
+    ensures { says_read result ≡ entry_at edition s.now at }
 {
-    match whole_at(edition, s, at) {
-        ReadEntry::Got(x, next) => tidy_at(s, x, next),
-        ReadEntry::Refused(f) => ReadEntry::Refused(f),
-    }
+    let (x, next) = whole_at(edition, s, at)?;
+    tidy_at(s, x, next)
 }
 
 // The entry that the bytes are: 3 where bytes follow it.
-pub(crate) fn alone(edition: Edition, s: &[u8]) -> ReadEntry
-    ensures { says_entry result ≡ alone_in edition s.now }
+#[tactic(auto, unfolding(crate::specs::Entry::alone_in, layout::specs::Answer::after))]
+pub(crate) fn alone(edition: Edition, s: &[u8]) -> Read<Entry>
+    ensures { says_read result ≡ alone_in edition s.now }
 {
-    match whole_at(edition, s, 0) {
-        ReadEntry::Got(x, next) => match next.end(s) {
-            Span::Till(_) => tidy_at(s, x, next),
-            Span::Refused(f) => ReadEntry::Refused(f),
-        },
-        ReadEntry::Refused(f) => ReadEntry::Refused(f),
-    }
+    let (x, next) = whole_at(edition, s, 0)?;
+    next.end(s)?;
+    tidy_at(s, x, next)
 }

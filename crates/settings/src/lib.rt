@@ -6,10 +6,9 @@ mod keep;
 mod row;
 mod spell;
 
-pub use entry::{Edition, Entry, ReadEntry, entry_at};
+pub use entry::{Edition, Entry, entry_at};
 pub use keep::{remove, store};
-pub use layout::Checked;
-pub use row::{Found, check_row, find};
+pub use row::{check_row, find};
 pub use spell::write_entry;
 
 // The settings' own refusals: a kind that the edition does not know; and a new key beside 256 others.

@@ -2,20 +2,12 @@
 ghost use Rattle.std.specs.Prelude.{◌≡◌, ◌+◌, ◌≤◌, length, ◌++◌};
 ghost use Rattle.layout.specs.Bytes.{bytes};
 ghost use Rattle.layout.specs.Written.{Put};
-ghost use Rattle.settings.specs.Row.{row_of, says_checked, any_key, own_key, asked_key, found_in};
+ghost use Rattle.settings.specs.Row.{row_of, count_read, any_key, own_key, asked_key, found_in};
 ghost use Rattle.settings.specs.Search.{TellsAt, Chained, Places, Seeks, Spells, Best, held_at, told_end};
 
-use crate::{Edition, Entry, ReadEntry, entry};
-use layout::{Checked, Refusal, Written};
-use wire::{Cursor, ReadU32};
-
-// The entry that is kept for a question, by its places in the row.
-#[derive(Drop)]
-pub enum Found {
-    Held(Entry),
-    NotHeld,
-    Refused(Refusal),
-}
+use crate::{Edition, Entry, entry};
+use layout::Refusal;
+use wire::Cursor;
 
 // The most entries of a row.
 pub(crate) const LIMIT: usize = 256;
@@ -25,9 +17,7 @@ fn same_at(s: &[u8], at: usize, key: &[u8]) -> bool
     requires { at + length key.now ≤ length s.now }
     ensures { TellsAt s.now at key.now result }
 {
-    let mut i = key.len();
-    while 0 < i {
-        i -= 1;
+    for i in (0..key.len()).rev() {
         if s[at + i] != key[i] {
             return false;
         }
@@ -54,8 +44,8 @@ pub(crate) fn end_of(s: &[u8], at: usize) -> usize
     ensures { result ≡ told_end s.now at }
 {
     match (Cursor { at }).u32(s) {
-        ReadU32::Got(len, _) => at + len as usize,
-        ReadU32::Refused(_) => s.len(),
+        Ok((len, _)) => at + len as usize,
+        Err(_) => s.len(),
     }
 }
 
@@ -65,6 +55,7 @@ pub(crate) fn seek(s: &[u8], upto: usize, key: &[u8]) -> usize
     ensures { Seeks s.now upto key.now result }
 {
     let mut at = 0;
+    // No range: each entry says itself where the next one starts.
     while at < upto {
         if has_at(s, at + 4, key) {
             return at;
@@ -75,29 +66,24 @@ pub(crate) fn seek(s: &[u8], upto: usize, key: &[u8]) -> usize
 }
 
 // How many entries the row has; 13 where a key stands twice, 18 at the 257th.
-pub fn check_row(edition: Edition, row: &[u8]) -> Checked
-    ensures { result ≡ says_checked (row_of edition row.now) }
+pub fn check_row(edition: Edition, row: &[u8]) -> Result<usize, Refusal>
+    ensures { result ≡ count_read (row_of edition row.now) }
 {
     let mut at = 0;
     let mut count = 0;
+    // No range: each entry says itself where the next one starts.
     while at < row.len() {
-        match entry::entry_at(edition, row, at) {
-            ReadEntry::Got(x, next) => {
-                if seek(row, at, entry::key_of(row, x)) < at {
-                    return Checked::Refused(layout::plain(layout::RECORD));
-                }
-                if LIMIT <= count {
-                    return Checked::Refused(layout::plain(crate::FULL));
-                }
-                at = next.at;
-                count += 1;
-            }
-            ReadEntry::Refused(f) => {
-                return Checked::Refused(f);
-            }
+        let (x, next) = entry::entry_at(edition, row, at)?;
+        if seek(row, at, entry::key_of(row, x)) < at {
+            return Err(layout::plain(layout::RECORD));
         }
+        if LIMIT <= count {
+            return Err(layout::plain(crate::FULL));
+        }
+        at = next.at;
+        count += 1;
     }
-    Checked::Whole(count)
+    Ok(count)
 }
 
 // The front of a key's word, at a place.
@@ -135,17 +121,13 @@ fn any_place(row: &[u8], vendor: u32, property: u16) -> usize
 }
 
 // The word of the key of a serial's own entry, at the front of a part that has room for the longest.
-fn put_own(vendor: u32, property: u16, serial: &[u16], out: &mut [u8]) -> Written
+fn put_own(vendor: u32, property: u16, serial: &[u16], out: &mut [u8]) -> Result<usize, Refusal>
     requires { 519 ≤ length out.old }
     ensures { Spells (own_key vendor property serial.now) out.new result }
 {
-    match wire::write_text(serial, &mut out[8..]) {
-        Written::Done(n) => {
-            let a = put_front(crate::OWN, vendor, property, out);
-            Written::Done(a + n)
-        }
-        Written::Refused(f) => Written::Refused(f),
-    }
+    let n = wire::write_text(serial, &mut out[8..])?;
+    let a = put_front(crate::OWN, vendor, property, out);
+    Ok(a + n)
 }
 
 // Where the serial's own entry starts. What no serial can be, no entry has.
@@ -155,8 +137,8 @@ fn own_place(row: &[u8], vendor: u32, property: u16, serial: &[u16]) -> usize
 {
     let mut key = [0u8; 519];
     match put_own(vendor, property, serial, &mut key) {
-        Written::Done(n) => seek(row, row.len(), &key[..n]),
-        Written::Refused(_) => row.len(),
+        Ok(n) => seek(row, row.len(), &key[..n]),
+        Err(_) => row.len(),
     }
 }
 
@@ -189,28 +171,28 @@ fn best_place(edition: Edition, row: &[u8], vendor: u32, property: u16, serial: 
 }
 
 // The entry that starts at a place; none at the row's end.
-fn held_at(edition: Edition, row: &[u8], at: usize) -> Found
+#[tactic(auto, unfolding(crate::specs::Search::held_at))]
+fn held_at(edition: Edition, row: &[u8], at: usize) -> Option<Entry>
     ensures { result ≡ held_at edition row.now at }
 {
     if row.len() <= at {
-        return Found::NotHeld;
+        return None;
     }
-    match entry::entry_at(edition, row, at) {
-        ReadEntry::Got(x, _) => Found::Held(x),
-        ReadEntry::Refused(_) => Found::NotHeld,
-    }
+    let (x, _) = entry::entry_at(edition, row, at).ok()?;
+    Some(x)
 }
 
-// What is kept of a property: in edition 2 for the serial, else for any.
-pub fn find(edition: Edition, row: &[u8], vendor: u32, property: u16, serial: &[u16]) -> Found
+// The entry that is kept of a property, by its places in the row: in edition 2 for the serial, else for any.
+pub fn find(
+    edition: Edition,
+    row: &[u8],
+    vendor: u32,
+    property: u16,
+    serial: &[u16],
+) -> Result<Option<Entry>, Refusal>
     ensures { result ≡ found_in edition vendor property serial.now row.now }
 {
-    match check_row(edition, row) {
-        Checked::Whole(_) => held_at(
-            edition,
-            row,
-            best_place(edition, row, vendor, property, serial),
-        ),
-        Checked::Refused(f) => Found::Refused(f),
-    }
+    check_row(edition, row)?;
+    let at = best_place(edition, row, vendor, property, serial);
+    Ok(held_at(edition, row, at))
 }

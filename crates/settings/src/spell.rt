@@ -1,11 +1,12 @@
 // An entry written from its fields: its one spelling.
+ghost use Rattle.layout.specs.Answer.{says_count};
 ghost use Rattle.std.specs.Prelude.{◌≡◌, ◌+◌, ◌≤◌, length};
-ghost use Rattle.layout.specs.Written.{Wrote, Put, says, says_written};
+ghost use Rattle.layout.specs.Written.{Wrote, Put, says};
 ghost use Rattle.settings.specs.Spell.{kind_of, serial_said, is_value, entry_bytes, spelled_said, entry_said};
 
 use crate::{entry, row};
-use layout::Written;
-use wire::{Cursor, ReadValue};
+use layout::Refusal;
+use wire::Cursor;
 
 // The longest serial's bytes: a count, 254 units and a 0.
 const SERIAL: usize = 511;
@@ -20,28 +21,27 @@ fn kind_of(own: bool) -> u16
 }
 
 // Whether the bytes are exactly one tidy value of the type.
+#[tactic(auto, using(crate::proofs::SpellLaws::value_longer, crate::proofs::SpellLaws::value_tested, crate::proofs::SpellLaws::value_none))]
 fn is_value(code: u16, w: &[u8]) -> bool
     ensures { result ≡ is_value code w.now }
 {
-    match (Cursor { at: 0 }).value(w, code) {
-        ReadValue::Got(_, next) => {
-            let end = next.at;
-            if end != w.len() {
-                return false;
-            }
-            entry::word_tidy(code, w)
-        }
-        ReadValue::Refused(_) => false,
+    let Ok((_, next)) = (Cursor { at: 0 }).value(w, code) else {
+        return false;
+    };
+    if next.at != w.len() {
+        return false;
     }
+    entry::word_tidy(code, w)
 }
 
-fn put_serial(own: bool, serial: &[u16], out: &mut [u8]) -> Written
-    ensures { Wrote (serial_said own serial.now) out.old (says_written result) out.new }
+#[tactic(auto, unfolding(crate::specs::Spell::serial_said, layout::specs::Written::answer_of, layout::specs::Written::left_of))]
+fn put_serial(own: bool, serial: &[u16], out: &mut [u8]) -> Result<usize, Refusal>
+    ensures { Wrote (serial_said own serial.now) out.old (says_count result) out.new }
 {
     if own {
         return wire::write_text(serial, out);
     }
-    Written::Done(0)
+    Ok(0)
 }
 
 // The fields one after the other, where there is room.
@@ -66,6 +66,7 @@ fn put_fields(
 }
 
 // The entry with these bytes for its serial.
+#[tactic(auto, unfolding(crate::specs::Spell::spelled_said, layout::specs::Written::answer_of, layout::specs::Written::left_of))]
 fn put_entry(
     own: bool,
     vendor: u32,
@@ -74,20 +75,20 @@ fn put_entry(
     code: u16,
     value: &[u8],
     out: &mut [u8],
-) -> Written
+) -> Result<usize, Refusal>
     requires { length serial.now ≤ 511 }
-    ensures { Wrote (spelled_said own vendor property code value.now (says serial.now)) out.old (says_written result) out.new }
+    ensures { Wrote (spelled_said own vendor property code value.now (says serial.now)) out.old (says_count result) out.new }
 {
     if !is_value(code, value) {
-        return Written::Refused(layout::plain(layout::RECORD));
+        return Err(layout::plain(layout::RECORD));
     }
     if MOST - 14 - serial.len() < value.len() {
-        return Written::Refused(layout::plain(layout::RECORD));
+        return Err(layout::plain(layout::RECORD));
     }
     if out.len() < 14 + serial.len() + value.len() {
-        return Written::Refused(layout::plain(layout::ROOM));
+        return Err(layout::plain(layout::ROOM));
     }
-    Written::Done(put_fields(kind_of(own), vendor, property, serial, code, value, out))
+    Ok(put_fields(kind_of(own), vendor, property, serial, code, value, out))
 }
 
 // The entry for the serial where `own`, else for any, and then the serial is not looked at. 2 and 10 of the serial, 13 for what is no tidy value of the type, then 9.
@@ -99,12 +100,10 @@ pub fn write_entry(
     own: bool,
     serial: &[u16],
     out: &mut [u8],
-) -> Written
-    ensures { Wrote (entry_said vendor property code value.now own serial.now) out.old (says_written result) out.new }
+) -> Result<usize, Refusal>
+    ensures { Wrote (entry_said vendor property code value.now own serial.now) out.old (says_count result) out.new }
 {
     let mut word = [0u8; SERIAL];
-    match put_serial(own, serial, &mut word) {
-        Written::Done(n) => put_entry(own, vendor, property, &word[..n], code, value, out),
-        Written::Refused(f) => Written::Refused(f),
-    }
+    let n = put_serial(own, serial, &mut word)?;
+    put_entry(own, vendor, property, &word[..n], code, value, out)
 }

@@ -12,7 +12,7 @@ use lib.Dec.{ltb, eqb}
 use lib.ListN.{length, get_or, take, drop, set, replicate, length-replicate, length-append, length-drop, drop_of_length-le}
 use lib.Seq.{drop-cons, length-take-le}
 use Rattle.layout.specs.Answer.{pick}
-use Rattle.layout.proofs.laws.Writing.{Owes, start, byte, end}
+use Rattle.layout.proofs.laws.Writing.{Owes, byte, end}
 use Rattle.layout.proofs.laws.Numbers.{zero_one}
 use Rattle.tree.specs.Table.{Table, flags, start_of, end_of}
 use Rattle.shots.specs.Collected.{alive, kept_by, ends_kept, names_kept, ahead, places, live_names, collected}
@@ -32,9 +32,6 @@ pub record Owning (n : ℕ) (old now : List ℕ) (k : ℕ) : Type 0 where
   pub owes : Owes now k (up_from k (n - k)) old 0 (up_from 0 n)
   pub within : k ≤ n
 
-pub owning_start : {n : ℕ} {old : List ℕ} → Owning n old old 0
-owning_start {n} = let z : n - 0 ≡ n = omega arith in record { owes = rw z start; within = omega arith }
-
 pub owning_on : {n : ℕ} {old now : List ℕ} {k : ℕ} → Owning n old now k → k < n → Owning n old (set now k k) (k + 1)
 unfolding up_from
 owning_on {n} {old} {now} {k} v h = record { owes = byte (let m : n - k ≡ suc (n - suc k) = omega arith in rw (add-one k, m)) v.owes; within = omega arith }
@@ -48,22 +45,21 @@ owning_end {n} {old} {now} {k} v f h = let w = v.within in fronted (end (let m :
 pub record Counting (ms : List ℕ) (n k : ℕ) : Type 0 where
   pub counts : n + alive (drop k ms) ≡ alive ms
   pub behind : n ≤ k
-  pub within : k ≤ length ms
 
-pub counting_start : {ms : List ℕ} → Counting ms 0 0
-counting_start = record { counts = omega arith; behind = omega arith; within = omega arith }
+module _ {ms : List ℕ} {n k : ℕ} (v : Counting ms n k) (h : k < length ms) where
+  pub counting_hit : ltb 0 (get_or ms k 0) ≡ true → Counting ms (n + 1) (k + 1)
+  unfolding alive
+  counting_hit e = record {
+    counts = let c : n + alive (get_or ms k 0 ∷ drop (suc k) ms) ≡ alive ms = rw (drop-cons ms k 0 h) at v.counts in let d : n + (1 + alive (drop (suc k) ms)) ≡ alive ms = rw e at c in rw (add-one k) (omega arith);
+    behind = let b = v.behind in omega arith;
+  }
 
-pub counting_on : {ms : List ℕ} {n k : ℕ} → Counting ms n k → k < length ms → Counting ms (n + pick (ltb 0 (get_or ms k 0)) 1 0) (k + 1)
-unfolding alive
-counting_on {ms} {n} {k} v h = record {
-  counts = let c : n + alive (get_or ms k 0 ∷ drop (suc k) ms) ≡ alive ms = rw (drop-cons ms k 0 h) at v.counts in rw add-one (omega arith);
-  behind = let b = v.behind in let l = least (ltb 0 (get_or ms k 0)) in omega arith;
-  within = omega arith;
-}
-  where
-    least : (b : Bool) → pick {A = ℕ} b 1 0 ≤ 1
-    least true = omega arith
-    least false = omega arith
+  pub counting_skip : ltb 0 (get_or ms k 0) ≡ false → Counting ms n (k + 1)
+  unfolding alive
+  counting_skip e = record {
+    counts = let c : n + alive (get_or ms k 0 ∷ drop (suc k) ms) ≡ alive ms = rw (drop-cons ms k 0 h) at v.counts in let d : n + (0 + alive (drop (suc k) ms)) ≡ alive ms = rw e at c in rw (add-one k) (omega arith);
+    behind = let b = v.behind in omega arith;
+  }
 
 pub counting_end : {ms : List ℕ} {n k : ℕ} → Counting ms n k → length ms ≤ k → n ≡ alive ms
 unfolding alive
@@ -76,9 +72,6 @@ pub record Sparing (ms es ns : List ℕ) (o from k : ℕ) : Type 0 where
   pub behind : o ≤ from
   pub begins : from ≡ start_of es k
   pub within : k ≤ length ms
-
-pub sparing_start : {ms es ns : List ℕ} → Sparing ms es ns 0 0 0
-sparing_start = record { counts = omega arith; behind = omega arith; begins = refl; within = omega arith }
 
 module _ {ms es ns : List ℕ} {o from k : ℕ} (v : Sparing ms es ns o from k) (fits : length ms ≤ length es) where
   module _ (h : k < length ms) (up : start_of es k ≤ end_of es k) (in_it : end_of es k ≤ length ns) where

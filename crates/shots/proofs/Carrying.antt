@@ -2,10 +2,12 @@
 -- Assumes nothing.
 use mathlib.Core.Path.{◌≡◌, refl, sym, ap, subst, ◌∙◌}
 use mathlib.Core.Bool.{Bool, true, false}
-use mathlib.Core.List.{List}
-use Prim.Native.Nat.{ℕ, suc, ◌≤◌, ◌<◌}
+use mathlib.Core.List.{List, [], ◌++◌, append-nil}
+use Prim.Native.Nat.{ℕ, suc, ◌+◌, ◌-◌, ◌≤◌, ◌<◌}
 use native.Mathlib.Omega.{arith}
-use lib.ListN.{length, get_or, take}
+use borrow.Rule.Slice.PartMut.{put_mid}
+use lib.ListN.{length, get_or, take, drop, replicate, length-replicate, get_or-replicate, length-append, length-drop, get_or-append, get_or-eq_default, drop_of_length-le}
+use lib.Seq.{length-take-le, get_or-take, get_or-append-add}
 use Rattle.tree.specs.Facts.{Marks}
 use Rattle.tree.specs.Links.{Child, Lowest, lowest, nobody, Links}
 use Rattle.tree.specs.Rule.{Rule}
@@ -23,6 +25,24 @@ use Rattle.shots.proofs.Gatherings.{places_long, flags_long, fronted_long, ahead
 use Rattle.shots.proofs.Ranked.{rank_below, rank_covers, kept_at, kept_long}
 
 -- ── one list ──
+
+-- behind the first n nothing but 0
+pub blank : (l : List ℕ) (n : ℕ) → n ≤ length l → Blank n l (put_mid n (length l - n) l (replicate (length l - n) 0))
+blank l n h =
+    let zeros = replicate {A = ℕ} (length l - n) 0 in
+    let front = length-take-le n l h in
+    let past : drop (length l - n) (drop n l) ≡ [] = drop_of_length-le (drop n l) (omega (arith, length-drop n l)) in
+    let all : put_mid n (length l - n) l (replicate (length l - n) 0) ≡ take n l ++ replicate (length l - n) 0 = rw (past, append-nil) in
+    rw all record {
+      long = omega (arith, length-append (take n l) zeros, length-replicate {A = ℕ} (length l - n) 0);
+      before = λ k b. get_or-append (take n l) zeros 0 k (omega arith) ∙ get_or-take n l k 0 b;
+      none = λ k b.
+          let at : k ≡ length (take n l) + (k - n) = omega arith in
+          ap (λ (i : ℕ). get_or (take n l ++ zeros) i 0) at ∙ get_or-append-add (take n l) zeros (k - n) 0
+          ∙ by_less (k - n) (length l - n) _ refl
+          (λ c. get_or-replicate {A = ℕ} (length l - n) (k - n) 0 0 c)
+          (λ c. get_or-eq_default zeros 0 (omega (arith, length-replicate {A = ℕ} (length l - n) 0)));
+    }
 
 pub carried : {ms news old mid new : List ℕ} {n : ℕ} → length ms ≤ length old → Fronted (kept_by (λ p. get_or news p 0) ms old) old mid n → Blank n mid new → Carried ms news old new
 carried {ms} {news} {old} {mid} {new} {n} fits f b =

@@ -1,5 +1,8 @@
 -- What collecting leaves: a table that is accepted, with the same walk, the same handles and the same paths but for place numbers.
 -- Assumes nothing.
+use Rattle.layout.specs.Answer.{says_count}
+use Rattle.std.specs.declared.result.Result.{Result}
+use Rattle.layout.specs.declared.Refusal.{Refusal}
 use mathlib.Core.Path.{◌≡◌, refl, sym, ap, subst, ◌∙◌}
 use mathlib.Core.Bool.{true}
 use mathlib.Core.List.{List, [], ◌∷◌, map}
@@ -12,8 +15,7 @@ use lib.ListN.{length, get_or, take, drop, replicate, length-replicate, get_or-r
 use lib.Seq.{get_or-take}
 use Rattle.layout.specs.Answer.{Answer, got, bare}
 use Rattle.layout.specs.Refusals.{TABLE}
-use Rattle.layout.specs.Written.{Said, Wrote, says_written, left_of}
-use Rattle.layout.specs.declared.Written.{Written}
+use Rattle.layout.specs.Written.{Said, Wrote, left_of}
 use Rattle.layout.proofs.laws.Reading.{parted, picked, one_got}
 use Rattle.tree.specs.Listed.{Every, none, more}
 use Rattle.tree.specs.Path.{name_of, path_of, joined, ends_from, paths_said, ends_said, AllPaths}
@@ -229,7 +231,7 @@ module _ (t : Table) {n : ℕ} (e : table_at t ≡ got tt n) where
         left = p.left ∙ ap (λ (x : Said). left_of x ends) (sym (same_stops each (length out)));
       }
 
-  pub paths_same : {out ends o o' es es' : List ℕ} {x y : Written} → AllPaths t out ends (says_written x) o es → AllPaths (collected t) out ends (says_written y) o' es'
+  pub paths_same : {out ends o o' es es' : List ℕ} {x y : (Result ℕ Refusal)} → AllPaths t out ends (says_count x) o es → AllPaths (collected t) out ends (says_count y) o' es'
       → (x ≡ y) × (o ≡ o') × (es ≡ es')
   paths_same {out} {ends} {o} {o'} {es} {es'} {x} {y} p q = one_paths (collected t) out ends x y o o' es es' (carried p) q
 

@@ -68,9 +68,6 @@ module _ {q old new : List ℕ} (c : Cleared q old new) (k : ℕ) where
   cleared_none : get_or old k 0 ≡ 0 → get_or new k 0 ≡ 0
   cleared_none e = equal (times k q) 0 (λ z. cleared_out z ∙ e) (λ z. cleared_in (omega arith))
 
-pub clear_start : {l : List ℕ} → Cleared [] l l
-clear_start = record { long = refl; each = λ k. refl }
-
 pub clear_turn : (q : List ℕ) (i : ℕ) {old now : List ℕ} → Cleared (take i q) old now → i < length q → get_or q i 0 < length old → Cleared (take (i + 1) q) old (set now (get_or q i 0) 0)
 clear_turn q i {old} {now} c h l =
     let at = get_or q i 0 in

@@ -1,12 +1,12 @@
 -- A table collected, list by list.
 -- Assumes nothing.
-use mathlib.Core.Path.{◌≡◌, refl, ap, ◌∙◌}
+use mathlib.Core.Path.{◌≡◌, refl, sym, ap, ◌∙◌}
 use mathlib.Core.Bool.{Bool, true, false}
-use mathlib.Core.List.{List, [], ◌∷◌}
+use mathlib.Core.List.{List, [], ◌∷◌, ◌++◌}
 use Prim.Native.Nat.{ℕ, suc, ◌+◌, ◌≤◌, ◌<◌}
 use native.Mathlib.Omega.{arith}
 use lib.Dec.{ltb}
-use lib.ListN.{length, get_or, drop, replicate, length-append, length-drop, get_or-append}
+use lib.ListN.{length, get_or, drop, replicate, length-replicate, length-append, length-drop, get_or-append}
 use lib.Seq.{length-take-le}
 use Rattle.layout.specs.Answer.{pick}
 use Rattle.tree.specs.Table.{Table, flags}
@@ -32,6 +32,11 @@ alive_few (m ∷ ms) = let h = alive_few ms in by (ltb 0 m) h
 pub ahead_long : (front old : List ℕ) → length front ≤ length old → length (ahead front old) ≡ length old
 unfolding ahead
 ahead_long front old h = simp (length-append, length-drop) (omega arith)
+
+-- the first n made 1
+pub filled : (l : List ℕ) (n : ℕ) → n ≤ length l → Fronted (replicate n 1) l (replicate n 1 ++ drop n l) n
+unfolding ahead
+filled l n h = record { list = rw length-replicate; size = sym (length-replicate {A = ℕ} n 1); room = h }
 
 pub fronted_long : {front old new : List ℕ} {n : ℕ} → Fronted front old new n → length new ≡ length old
 fronted_long {front} {old} f = let s = f.size in let r = f.room in ap length f.list ∙ ahead_long front old (omega arith)

@@ -1,18 +1,17 @@
 -- Collecting: the loops. What stands at and behind the place that is read is as it was, so each entry that is owed is the one that is read.
 -- Assumes nothing.
 use mathlib.Core.Path.{◌≡◌, refl, sym, ap, ◌∙◌}
-use mathlib.Core.Bool.{Bool, true, false}
+use mathlib.Core.Bool.{true, false}
 use mathlib.Core.List.{List, [], ◌∷◌}
 use Prim.Native.Nat.{ℕ, zero, suc, ◌+◌, ◌-◌, ◌≤◌, ◌<◌}
 use native.Mathlib.Nat.{add-zero}
 use native.Mathlib.Numerals.{add-one}
 use native.Mathlib.Omega.{arith}
 use lib.Dec.{ltb}
-use lib.ListN.{length, get_or, take, drop, set, replicate, length-drop, drop_of_length-le}
+use lib.ListN.{length, get_or, take, drop, set, length-drop, drop_of_length-le}
 use lib.Seq.{sets, drop-cons, drop-drop, drop-set-lt, get_or-take, get_or-drop, length-take-le}
-use Rattle.layout.specs.Answer.{pick}
 use Rattle.layout.specs.Written.{put, Put}
-use Rattle.layout.proofs.laws.Writing.{Owes, start, byte, part, end, put_front}
+use Rattle.layout.proofs.laws.Writing.{Owes, byte, part, end, put_front}
 use Rattle.tree.specs.Table.{start_of, end_of}
 use Rattle.shots.specs.Facts.{Fronted, Spaced}
 use Rattle.shots.specs.Collected.{ahead, GONE, alive, places_from, kept_by, ends_kept, names_kept}
@@ -52,9 +51,6 @@ pub record Moving (f : ℕ → ℕ) (ms old now : List ℕ) (n k : ℕ) : Type 0
   pub behind : n ≤ k
   pub within : k ≤ length ms
 
-pub moving_start : {f : ℕ → ℕ} {ms old : List ℕ} → Moving f ms old old 0 0
-moving_start = record { owes = start; rest = refl; behind = omega arith; within = omega arith }
-
 module _ {f : ℕ → ℕ} {ms old now : List ℕ} {n k : ℕ} (v : Moving f ms old now n k) (fits : length ms ≤ length old) where
   pub moving_reads : get_or now k 0 ≡ get_or old k 0
   moving_reads = reads k now old v.rest
@@ -92,22 +88,24 @@ pub record Numbering (ms old now : List ℕ) (n k : ℕ) : Type 0 where
   pub behind : n ≤ k
   pub within : k ≤ length ms
 
-pub numbering_start : {ms old : List ℕ} → Numbering ms old old 0 0
-numbering_start = record { owes = start; counts = omega arith; behind = omega arith; within = omega arith }
+module _ {ms old now : List ℕ} {n k : ℕ} (v : Numbering ms old now n k) (h : k < length ms) where
+  pub numbering_hit : ltb 0 (get_or ms k 0) ≡ true → Numbering ms old (set now k n) (n + 1) (k + 1)
+  unfolding places_from alive
+  numbering_hit e = record {
+    owes = byte (rw (add-one k, drop-cons ms k 0, e)) v.owes;
+    counts = let c : n + alive (get_or ms k 0 ∷ drop (suc k) ms) ≡ alive ms = rw (drop-cons ms k 0 h) at v.counts in let d : n + (1 + alive (drop (suc k) ms)) ≡ alive ms = rw e at c in rw (add-one k) (omega arith);
+    behind = let b = v.behind in omega arith;
+    within = omega arith;
+  }
 
-least : (b : Bool) → pick {A = ℕ} b 1 0 ≤ 1
-least true = omega arith
-least false = omega arith
-
-pub numbering_on : {ms old now : List ℕ} {n k : ℕ} → Numbering ms old now n k → k < length ms
-    → Numbering ms old (set now k (pick (ltb 0 (get_or ms k 0)) n GONE)) (n + pick (ltb 0 (get_or ms k 0)) 1 0) (k + 1)
-unfolding places_from alive
-numbering_on {ms} {old} {now} {n} {k} v h = record {
-  owes = byte (rw (add-one, drop-cons ms k 0)) v.owes;
-  counts = let c : n + alive (get_or ms k 0 ∷ drop (suc k) ms) ≡ alive ms = rw (drop-cons ms k 0 h) at v.counts in rw add-one (omega arith);
-  behind = let b = v.behind in let l = least (ltb 0 (get_or ms k 0)) in omega arith;
-  within = omega arith;
-}
+  pub numbering_skip : ltb 0 (get_or ms k 0) ≡ false → Numbering ms old (set now k GONE) n (k + 1)
+  unfolding places_from alive
+  numbering_skip e = record {
+    owes = byte (rw (add-one k, drop-cons ms k 0, e, add-zero n)) v.owes;
+    counts = let c : n + alive (get_or ms k 0 ∷ drop (suc k) ms) ≡ alive ms = rw (drop-cons ms k 0 h) at v.counts in let d : n + (0 + alive (drop (suc k) ms)) ≡ alive ms = rw e at c in rw (add-one k) (omega arith);
+    behind = let b = v.behind in omega arith;
+    within = omega arith;
+  }
 
 pub numbering_end : {ms old now : List ℕ} {n k : ℕ} → Numbering ms old now n k → length ms ≤ length old → length ms ≤ k → (n ≡ alive ms) × Fronted (places_from 0 ms) old now (length ms)
 unfolding places_from alive
@@ -126,9 +124,6 @@ pub record Bounding (ms old now : List ℕ) (n at from k : ℕ) : Type 0 where
   pub shrinks : at ≤ from
   pub begins : from ≡ start_of old k
   pub within : k ≤ length ms
-
-pub bounding_start : {ms old : List ℕ} → Bounding ms old old 0 0 0 0
-bounding_start = record { owes = start; rest = refl; behind = omega arith; shrinks = omega arith; begins = refl; within = omega arith }
 
 module _ {ms old now : List ℕ} {n at from k : ℕ} (v : Bounding ms old now n at from k) (fits : length ms ≤ length old) where
   pub bounding_reads : get_or now k 0 ≡ get_or old k 0
@@ -177,9 +172,6 @@ pub record Naming (ms es old now : List ℕ) (o from k : ℕ) : Type 0 where
   pub begins : from ≡ start_of es k
   pub within : k ≤ length ms
 
-pub naming_start : {ms es old : List ℕ} → Naming ms es old old 0 0 0
-naming_start = record { owes = start; rest = refl; behind = omega arith; begins = refl; within = omega arith }
-
 module _ {ms es old now : List ℕ} {o from k : ℕ} (v : Naming ms es old now o from k) (fits : length ms ≤ length es) where
   module _ (h : k < length ms) (up : start_of es k ≤ end_of es k) (in_it : end_of es k ≤ length old) where
     pub naming_hit : {new : List ℕ} {next : ℕ} → ltb 0 (get_or ms k 0) ≡ true → Put now o (take (get_or es k 0 - from) (drop from now)) new next → Naming ms es old new next (get_or es k 0) (k + 1)
@@ -224,9 +216,6 @@ pub record Shifting (from n o : ℕ) (old now : List ℕ) (i : ℕ) : Type 0 whe
   pub rest : drop (from + i) now ≡ drop (from + i) old
   pub within : i ≤ n
 
-pub shifting_start : {from n o : ℕ} {old : List ℕ} → Shifting from n o old old 0
-shifting_start {from} {n} {o} {old} = record { owes = rw add-zero start; rest = refl; within = omega arith }
-
 module _ {from n o : ℕ} {old now : List ℕ} {i : ℕ} (v : Shifting from n o old now i) (down : o ≤ from) (room : from + n ≤ length old) where
   source : length (take n (drop from old)) ≡ n
   source = length-take-le n (drop from old) (let l = length-drop from old in omega arith)
@@ -246,18 +235,3 @@ module _ {from n o : ℕ} {old now : List ℕ} {i : ℕ} (v : Shifting from n o 
 
   pub shifting_end : n ≤ i → Put old o (take n (drop from old)) now (o + i)
   shifting_end h = let l = source in let past : length (take n (drop from old)) ≤ i = omega arith in end (drop_of_length-le (take n (drop from old)) past) v.owes
-
--- ── the first n live ──
-
-pub record Filling (n : ℕ) (old now : List ℕ) (k : ℕ) : Type 0 where
-  pub owes : Owes now k (replicate (n - k) 1) old 0 (replicate n 1)
-  pub within : k ≤ n
-
-pub filling_start : {n : ℕ} {old : List ℕ} → Filling n old old 0
-filling_start {n} = let z : n - 0 ≡ n = omega arith in record { owes = rw z start; within = omega arith }
-
-pub filling_on : {n : ℕ} {old now : List ℕ} {k : ℕ} → Filling n old now k → k < n → Filling n old (set now k 1) (k + 1)
-filling_on {n} {old} {now} {k} v h = record { owes = byte (let m : n - k ≡ suc (n - (k + 1)) = omega arith in rw m) v.owes; within = omega arith }
-
-pub filling_end : {n : ℕ} {old now : List ℕ} {k : ℕ} → Filling n old now k → n ≤ length old → n ≤ k → Fronted (replicate n 1) old now k
-filling_end {n} {old} {now} {k} v f h = let w = v.within in fronted (end (let m : n - k ≡ 0 = omega arith in rw m) v.owes) (omega arith)

@@ -1,13 +1,15 @@
 -- What collecting and deleting leave of the folder view: the view before but for place numbers, with the same paths; and the view before without what ended.
 -- Assumes nothing.
+use Rattle.layout.specs.Answer.{says_count}
+use Rattle.std.specs.declared.result.Result.{Result}
+use Rattle.layout.specs.declared.Refusal.{Refusal}
 use mathlib.Core.Path.{◌≡◌, refl, sym, ap, subst, ◌∙◌}
 use mathlib.Core.Bool.{true}
 use mathlib.Core.List.{List, [], ◌∷◌, map}
 use Prim.Native.Nat.{ℕ, ◌<◌}
 use lib.ListN.{length}
 use Rattle.layout.specs.Answer.{Answer, got}
-use Rattle.layout.specs.Written.{Said, Wrote, says_written, left_of}
-use Rattle.layout.specs.declared.Written.{Written}
+use Rattle.layout.specs.Written.{Said, Wrote, left_of}
 use Rattle.tree.specs.Rule.{Rule}
 use Rattle.tree.specs.Table.{Table, rows, flags, live, table_at}
 use Rattle.tree.specs.View.{Folders, ViewPaths}
@@ -48,7 +50,7 @@ module _ (t : Table) {n : ℕ} (e : table_at t ≡ got tt n) where
       }
 
   -- and its paths are written with the same bytes and ends before and after
-  pub view_paths_same : {out ends o o' es es' : List ℕ} {x y : Written} → ViewPaths t out ends (says_written x) o es → ViewPaths (collected t) out ends (says_written y) o' es'
+  pub view_paths_same : {out ends o o' es es' : List ℕ} {x y : (Result ℕ Refusal)} → ViewPaths t out ends (says_count x) o es → ViewPaths (collected t) out ends (says_count y) o' es'
       → (x ≡ y) × (o ≡ o') × (es ≡ es')
   view_paths_same {out} {ends} {o} {o'} {es} {es'} {x} {y} p q = one_view_paths (collected t) out ends x y o o' es es' (carried p) q
 

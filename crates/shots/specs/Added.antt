@@ -1,5 +1,8 @@
 -- What adding an object leaves: it stands behind the others, of which those that ended are collected first where places or name bytes do not suffice.
 -- Assumes nothing.
+use Rattle.std.specs.Prelude.{Ok, Err}
+use Rattle.std.specs.declared.result.Result.{Result}
+use Rattle.layout.specs.declared.Refusal.{Refusal}
 use Rattle.std.specs.Prelude.{◌≡◌, Bool, ◌||◌, List, [], ◌∷◌, ℕ, zero, suc, ◌+◌, ◌-◌, ltb, eqb, length, get_or, set}
 use Rattle.layout.specs.Answer.{Answer, got, refused, bare, pick, after}
 use Rattle.layout.specs.Written.{put}
@@ -7,13 +10,6 @@ use Rattle.layout.specs.Refusals.{ROOM, PLACE}
 use Rattle.tree.specs.Table.{Table, table, flags, live, start_of, name_at}
 use Rattle.shots.specs.Refusals.{TAKEN}
 use Rattle.shots.specs.Collected.{alive, places, live_names, collected, ahead, lent_at, leaves, Leaves}
-use Rattle.shots.specs.declared.Added.{Added}
-use Rattle.shots.specs.declared.Added.TheVariants as added
-
--- the object's place, or the refusal
-abbrev pub says_added : Added → Answer (Unit {0})
-says_added (added.At n) = got tt n
-says_added (added.Refused t) = refused t
 
 -- m numbers from k on
 unfoldable pub up_from : ℕ → ℕ → List ℕ

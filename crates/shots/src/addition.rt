@@ -1,17 +1,18 @@
 // An object added behind the last; those that ended are collected first where places or name bytes do not suffice.
+ghost use Rattle.layout.specs.Answer.{says_count};
 ghost use Rattle.std.specs.Prelude.{true, ◌≡◌, ◌-◌, ◌≤◌, ◌<◌, length, take};
-ghost use Rattle.layout.specs.Answer.{got, says_checked};
+ghost use Rattle.layout.specs.Answer.{got};
 ghost use Rattle.tree.specs.Facts.{Ruled, Marks};
 ghost use Rattle.tree.specs.Links.{Links};
 ghost use Rattle.tree.specs.Rule.{Rule};
 ghost use Rattle.tree.specs.Table.{table, live, start_of, table_at};
 ghost use Rattle.shots.specs.Collected.{alive, names_kept, Lists};
-ghost use Rattle.shots.specs.Added.{up_from, tight, with, base, added_to, room_at, add_at, Adds, says_added};
+ghost use Rattle.shots.specs.Added.{up_from, tight, with, base, added_to, room_at, add_at, Adds};
 ghost use Rattle.shots.specs.Linked.{AddsLinked};
 ghost use Rattle.shots.specs.Facts.{Spaced, Fit, Fronted, Room, Based, LinksOf, Appended, spare_at, object_at};
 
-use crate::{Added, collection};
-use layout::Checked;
+use crate::collection;
+use layout::Refusal;
 
 // Each place its own.
 fn own(news: &mut [u16], count: usize) -> usize
@@ -19,12 +20,10 @@ fn own(news: &mut [u16], count: usize) -> usize
     requires count_in_bounds { count ≤ length news.old }
     ensures { Fronted (up_from 0 count) news.old news.new result }
 {
-    let mut k: usize = 0;
-    while k < count {
+    for k in 0..count {
         news[k] = k as u16;
-        k += 1;
     }
-    k
+    count
 }
 
 // How many are live.
@@ -32,11 +31,12 @@ fn living(marks: &[u8]) -> usize
     requires { length marks.now ≤ 1024 }
     ensures { result ≡ alive marks.now }
 {
+    // A loop, since `filter` and `count` take half as long again.
     let mut n: usize = 0;
-    let mut k: usize = 0;
-    while k < marks.len() {
-        n += collection::one(marks[k]);
-        k += 1;
+    for mark in marks {
+        if *mark != 0 {
+            n += 1;
+        }
     }
     n
 }
@@ -50,14 +50,12 @@ fn spare(marks: &[u8], ends: &[u32], names: &[u8]) -> usize
 {
     let mut o: usize = 0;
     let mut from: usize = 0;
-    let mut k: usize = 0;
-    while k < marks.len() {
+    for (k, mark) in marks.iter().enumerate() {
         let end = ends[k] as usize;
-        if marks[k] != 0 {
+        if *mark != 0 {
             o += end - from;
         }
         from = end;
-        k += 1;
     }
     names.len() - o
 }
@@ -135,38 +133,42 @@ fn put_object(
 }
 
 // 19, then 9 for a name of this size.
-fn check_room(marks: &[u8], ends: &[u32], names: &[u8], size: usize) -> Checked
+fn check_room(marks: &[u8], ends: &[u32], names: &[u8], size: usize) -> Result<usize, Refusal>
     requires marks_len_bound { length marks.now ≤ 1024 }
     requires marks_in_bounds { length marks.now ≤ length ends.now }
     requires spaced { Spaced (length marks.now) ends.now (length names.now) }
-    ensures { says_checked result ≡ spare_at marks.now ends.now names.now size }
+    ensures { says_count result ≡ spare_at marks.now ends.now names.now size }
 {
     if living(marks) == 1024 {
-        return Checked::Refused(layout::plain(crate::TAKEN));
+        return Err(layout::plain(crate::TAKEN));
     }
     if spare(marks, ends, names) < size {
-        return Checked::Refused(layout::plain(layout::ROOM));
+        return Err(layout::plain(layout::ROOM));
     }
-    Checked::Whole(0)
+    Ok(0)
 }
 
 // 12 for a parent that is not live, the name's 1, 2, 3, then 19 and 9.
-fn check_object(marks: &[u8], ends: &[u32], names: &[u8], parent: usize, name: &[u8]) -> Checked
+fn check_object(
+    marks: &[u8],
+    ends: &[u32],
+    names: &[u8],
+    parent: usize,
+    name: &[u8],
+) -> Result<usize, Refusal>
     requires marks_len_bound { length marks.now ≤ 1024 }
     requires marks_in_bounds { length marks.now ≤ length ends.now }
     requires spaced { Spaced (length marks.now) ends.now (length names.now) }
-    ensures { says_checked result ≡ object_at marks.now ends.now names.now parent name.now }
+    ensures { says_count result ≡ object_at marks.now ends.now names.now parent name.now }
 {
     if marks.len() <= parent {
-        return Checked::Refused(layout::plain(layout::PLACE));
+        return Err(layout::plain(layout::PLACE));
     }
     if marks[parent] == 0 {
-        return Checked::Refused(layout::plain(layout::PLACE));
+        return Err(layout::plain(layout::PLACE));
     }
-    match tree::check_name(name) {
-        Checked::Whole(_) => check_room(marks, ends, names, name.len()),
-        Checked::Refused(f) => Checked::Refused(f),
-    }
+    tree::check_name(name)?;
+    check_room(marks, ends, names, name.len())
 }
 
 // The object behind the last, where there is room for it; its place.
@@ -217,21 +219,17 @@ pub fn add(
     parent: usize,
     handle: u32,
     name: &[u8],
-) -> Added
-    ensures { Adds (add_at (table handles.old parents.old ends.old marks.old count names.old) news.old parent name.now) (table handles.old parents.old ends.old marks.old count names.old) news.old parent handle name.now (says_added result) handles.new parents.new ends.new marks.new names.new news.new }
+) -> Result<usize, Refusal>
+    ensures { Adds (add_at (table handles.old parents.old ends.old marks.old count names.old) news.old parent name.now) (table handles.old parents.old ends.old marks.old count names.old) news.old parent handle name.now (says_count result) handles.new parents.new ends.new marks.new names.new news.new }
 {
     if news.len() != 1024 {
-        return Added::Refused(layout::plain(layout::TABLE));
+        return Err(layout::plain(layout::TABLE));
     }
-    match tree::check_table(&*handles, &*parents, &*ends, &*marks, count, &*names) {
-        Checked::Whole(_) => match check_object(&marks[..count], &*ends, &*names, parent, name) {
-            Checked::Whole(_) => Added::At(add_named(
-                handles, parents, ends, marks, count, names, news, parent, handle, name,
-            )),
-            Checked::Refused(f) => Added::Refused(f),
-        },
-        Checked::Refused(f) => Added::Refused(f),
-    }
+    tree::check_table(&*handles, &*parents, &*ends, &*marks, count, &*names)?;
+    check_object(&marks[..count], &*ends, &*names, parent, name)?;
+    Ok(add_named(
+        handles, parents, ends, marks, count, names, news, parent, handle, name,
+    ))
 }
 
 // What `make_room` does, of a table with its links.
@@ -282,6 +280,7 @@ fn append(
         first[p] = place as u16;
         return;
     }
+    // No range: the links say which child is next.
     while next[k] != 0 {
         k = next[k] as usize;
     }
@@ -344,22 +343,17 @@ pub fn add_linked(
     parent: usize,
     handle: u32,
     name: &[u8],
-) -> Added
-    ensures { AddsLinked (table handles.old parents.old ends.old marks.old count names.old) first.old next.old news.old parent handle name.now (says_added result) handles.new parents.new ends.new marks.new names.new first.new next.new news.new }
+) -> Result<usize, Refusal>
+    ensures { AddsLinked (table handles.old parents.old ends.old marks.old count names.old) first.old next.old news.old parent handle name.now (says_count result) handles.new parents.new ends.new marks.new names.new first.new next.new news.new }
 {
     if news.len() != 1024 {
-        return Added::Refused(layout::plain(layout::TABLE));
+        return Err(layout::plain(layout::TABLE));
     }
-    match tree::check_links(
+    tree::check_links(
         &*handles, &*parents, &*ends, &*marks, count, &*names, &*first, &*next,
-    ) {
-        Checked::Whole(_) => match check_object(&marks[..count], &*ends, &*names, parent, name) {
-            Checked::Whole(_) => Added::At(add_named_linked(
-                handles, parents, ends, marks, count, names, first, next, news, parent, handle,
-                name,
-            )),
-            Checked::Refused(f) => Added::Refused(f),
-        },
-        Checked::Refused(f) => Added::Refused(f),
-    }
+    )?;
+    check_object(&marks[..count], &*ends, &*names, parent, name)?;
+    Ok(add_named_linked(
+        handles, parents, ends, marks, count, names, first, next, news, parent, handle, name,
+    ))
 }

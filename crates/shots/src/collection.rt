@@ -1,32 +1,15 @@
 // Live objects moved down in their order, one list at a time. Every store goes to a place at or before the one that is read.
-ghost use Rattle.std.specs.Prelude.{◌≡◌, ◌+◌, ◌≤◌, ◌<◌, ltb, length, get_or, take, drop, replicate};
-ghost use Rattle.layout.specs.Answer.{pick, says_checked};
+ghost use Rattle.std.specs.Prelude.{◌≡◌, ◌+◌, ◌≤◌, length, get_or, take, drop};
+ghost use Rattle.layout.specs.Answer.{says_count};
 ghost use Rattle.layout.specs.Written.{Put};
 ghost use Rattle.tree.specs.Links.{Links};
 ghost use Rattle.tree.specs.Rule.{Rule};
 ghost use Rattle.tree.specs.Table.{table, live};
-ghost use Rattle.shots.specs.Facts.{Rises, Spaced, Hung, Fit, Fronted, Gathered, Lowered, Blank, Carried, LinksOf};
-ghost use Rattle.shots.specs.Collected.{GONE, alive, places_from, kept_by, ends_kept, names_kept, collected, Collected};
+ghost use Rattle.shots.specs.Facts.{Rises, Spaced, Hung, Fit, Fronted, Gathered, Lowered, Carried, LinksOf};
+ghost use Rattle.shots.specs.Collected.{alive, places_from, kept_by, ends_kept, names_kept, collected, Collected};
 ghost use Rattle.shots.specs.Linked.{CollectedLinked};
 
-use layout::Checked;
-
-// The new place of what has this mark, where so many live ones stand before it.
-fn new_place(mark: u8, n: usize) -> u16
-    requires { n < 65536 }
-    ensures { result ≡ pick (ltb 0 mark) n GONE }
-{
-    if mark == 0 {
-        return crate::GONE;
-    }
-    n as u16
-}
-
-pub(crate) fn one(mark: u8) -> usize
-    ensures { result ≡ pick (ltb 0 mark) 1 0 }
-{
-    if mark == 0 { 0 } else { 1 }
-}
+use layout::Refusal;
 
 // The new places; how many are live.
 fn number(marks: &[u8], news: &mut [u16]) -> usize
@@ -35,12 +18,13 @@ fn number(marks: &[u8], news: &mut [u16]) -> usize
     ensures { (result ≡ alive marks.now) × Fronted (places_from 0 marks.now) news.old news.new (length marks.now) }
 {
     let mut n: usize = 0;
-    let mut k: usize = 0;
-    while k < marks.len() {
-        let mark = marks[k];
-        news[k] = new_place(mark, n);
-        n += one(mark);
-        k += 1;
+    for (k, mark) in marks.iter().enumerate() {
+        if *mark == 0 {
+            news[k] = crate::GONE;
+        } else {
+            news[k] = n as u16;
+            n += 1;
+        }
     }
     n
 }
@@ -51,13 +35,11 @@ fn keep_handles(marks: &[u8], handles: &mut [u32]) -> usize
     ensures { Fronted (kept_by (λ h. h) marks.now handles.old) handles.old handles.new result }
 {
     let mut n: usize = 0;
-    let mut k: usize = 0;
-    while k < marks.len() {
-        if marks[k] != 0 {
+    for (k, mark) in marks.iter().enumerate() {
+        if *mark != 0 {
             handles[n] = handles[k];
             n += 1;
         }
-        k += 1;
     }
     n
 }
@@ -70,14 +52,12 @@ fn keep_places(marks: &[u8], news: &[u16], list: &mut [u16]) -> usize
     ensures { Fronted (kept_by (λ p. get_or news.now p 0) marks.now list.old) list.old list.new result }
 {
     let mut n: usize = 0;
-    let mut k: usize = 0;
-    while k < marks.len() {
-        if marks[k] != 0 {
+    for (k, mark) in marks.iter().enumerate() {
+        if *mark != 0 {
             let p = list[k] as usize;
             list[n] = news[p];
             n += 1;
         }
-        k += 1;
     }
     n
 }
@@ -88,12 +68,11 @@ fn shift(names: &mut [u8], from: usize, n: usize, o: usize) -> usize
     requires n_in_bounds { from + n ≤ length names.old }
     ensures { Put names.old o (take n (drop from names.old)) names.new result }
 {
-    let mut i: usize = 0;
-    while i < n {
+    // A loop, since `copy_within` is slower on names of a dozen bytes.
+    for i in 0..n {
         names[o + i] = names[from + i];
-        i += 1;
     }
-    o + i
+    o + n
 }
 
 fn keep_names(marks: &[u8], ends: &[u32], names: &mut [u8]) -> usize
@@ -104,14 +83,12 @@ fn keep_names(marks: &[u8], ends: &[u32], names: &mut [u8]) -> usize
 {
     let mut o: usize = 0;
     let mut from: usize = 0;
-    let mut k: usize = 0;
-    while k < marks.len() {
+    for (k, mark) in marks.iter().enumerate() {
         let end = ends[k] as usize;
-        if marks[k] != 0 {
+        if *mark != 0 {
             o = shift(names, from, end - from, o);
         }
         from = end;
-        k += 1;
     }
     o
 }
@@ -125,31 +102,16 @@ fn keep_ends(marks: &[u8], ends: &mut [u32]) -> usize
     let mut n: usize = 0;
     let mut at: usize = 0;
     let mut from: usize = 0;
-    let mut k: usize = 0;
-    while k < marks.len() {
+    for (k, mark) in marks.iter().enumerate() {
         let end = ends[k] as usize;
-        if marks[k] != 0 {
+        if *mark != 0 {
             at += end - from;
             ends[n] = at as u32;
             n += 1;
         }
         from = end;
-        k += 1;
     }
     n
-}
-
-// The first n live.
-fn fill(marks: &mut [u8], n: usize) -> usize
-    requires { n ≤ length marks.old }
-    ensures { Fronted (replicate n 1) marks.old marks.new result }
-{
-    let mut k: usize = 0;
-    while k < n {
-        marks[k] = 1;
-        k += 1;
-    }
-    k
 }
 
 // The n live objects of a table that keeps its rule moved down, by their new places.
@@ -172,7 +134,7 @@ fn move_down(
     keep_places(&marks[..count], news, parents);
     keep_names(&marks[..count], &*ends, names);
     keep_ends(&marks[..count], ends);
-    fill(marks, n);
+    marks[..n].fill(1);
 }
 
 // The live objects of a table that keeps its rule moved down; how many they are.
@@ -194,17 +156,6 @@ pub(crate) fn gather(
     n
 }
 
-// 0 from a place on.
-fn clear_from(list: &mut [u16], n: usize)
-    ensures { Blank n list.old list.new }
-{
-    let mut k = n;
-    while k < list.len() {
-        list[k] = 0;
-        k += 1;
-    }
-}
-
 // Each link carried with its place to the new one; behind the live ones there is none.
 fn carry(marks: &[u8], news: &[u16], links: &mut [u16])
     requires marks_len_bound { length marks.now ≤ 1024 }
@@ -213,7 +164,7 @@ fn carry(marks: &[u8], news: &[u16], links: &mut [u16])
     ensures { Carried marks.now news.now links.old links.new }
 {
     let n = keep_places(marks, news, links);
-    clear_from(links, n);
+    links[n..].fill(0);
 }
 
 // What `gather` does, of a table with its links.
@@ -249,18 +200,14 @@ pub fn collect(
     count: usize,
     names: &mut [u8],
     news: &mut [u16],
-) -> Checked
-    ensures { Collected (table handles.old parents.old ends.old marks.old count names.old) news.old (says_checked result) handles.new parents.new ends.new marks.new names.new news.new }
+) -> Result<usize, Refusal>
+    ensures { Collected (table handles.old parents.old ends.old marks.old count names.old) news.old (says_count result) handles.new parents.new ends.new marks.new names.new news.new }
 {
     if news.len() != 1024 {
-        return Checked::Refused(layout::plain(layout::TABLE));
+        return Err(layout::plain(layout::TABLE));
     }
-    match tree::check_table(&*handles, &*parents, &*ends, &*marks, count, &*names) {
-        Checked::Whole(_) => Checked::Whole(gather(
-            handles, parents, ends, marks, count, names, news,
-        )),
-        Checked::Refused(f) => Checked::Refused(f),
-    }
+    tree::check_table(&*handles, &*parents, &*ends, &*marks, count, &*names)?;
+    Ok(gather(handles, parents, ends, marks, count, names, news))
 }
 
 // What `collect` does, of a table that keeps its links; 11 also for other links than its own.
@@ -274,18 +221,16 @@ pub fn collect_linked(
     first: &mut [u16],
     next: &mut [u16],
     news: &mut [u16],
-) -> Checked
-    ensures { CollectedLinked (table handles.old parents.old ends.old marks.old count names.old) first.old next.old news.old (says_checked result) handles.new parents.new ends.new marks.new names.new first.new next.new news.new }
+) -> Result<usize, Refusal>
+    ensures { CollectedLinked (table handles.old parents.old ends.old marks.old count names.old) first.old next.old news.old (says_count result) handles.new parents.new ends.new marks.new names.new first.new next.new news.new }
 {
     if news.len() != 1024 {
-        return Checked::Refused(layout::plain(layout::TABLE));
+        return Err(layout::plain(layout::TABLE));
     }
-    match tree::check_links(
+    tree::check_links(
         &*handles, &*parents, &*ends, &*marks, count, &*names, &*first, &*next,
-    ) {
-        Checked::Whole(_) => Checked::Whole(gather_linked(
-            handles, parents, ends, marks, count, names, first, next, news,
-        )),
-        Checked::Refused(f) => Checked::Refused(f),
-    }
+    )?;
+    Ok(gather_linked(
+        handles, parents, ends, marks, count, names, first, next, news,
+    ))
 }

@@ -1,15 +1,15 @@
 // A place deleted, and everything below it: by one pass over a table, or down the links of one that keeps them.
+ghost use Rattle.layout.specs.Answer.{says_count};
 ghost use Rattle.std.specs.Prelude.{◌≡◌, true, ◌&&◌, ◌≤◌, ◌<◌, ltb, length, take, get_or};
 ghost use Rattle.layout.specs.Written.{Wrote, Put};
 ghost use Rattle.tree.specs.Facts.{Ruled, Marks};
 ghost use Rattle.tree.specs.Links.{Linking, Links};
 ghost use Rattle.tree.specs.Table.{table, live};
-ghost use Rattle.layout.specs.Answer.{says_checked};
 ghost use Rattle.shots.specs.Deleted.{ended_from, delete_said};
 ghost use Rattle.shots.specs.Linked.{DeletedLinked};
 ghost use Rattle.shots.specs.Facts.{Cleared, Skipped, Falling, Inside};
 
-use layout::Checked;
+use layout::Refusal;
 
 // One pass upward: a place whose parent is not live ends.
 fn fall(parents: &[u16], marks: &mut [u8], place: usize) -> usize
@@ -21,15 +21,13 @@ fn fall(parents: &[u16], marks: &mut [u8], place: usize) -> usize
     ensures { Put marks.old 0 (ended_from 0 parents.now place (take (length parents.now) marks.old)) marks.new result }
 {
     marks[place] = 0;
-    let mut k = place + 1;
-    while k < parents.len() {
+    for k in place + 1..parents.len() {
         let p = parents[k] as usize;
         if marks[p] == 0 {
             marks[k] = 0;
         }
-        k += 1;
     }
-    k
+    parents.len()
 }
 
 // Whether a place can be deleted: it is live, and not the root.
@@ -54,18 +52,14 @@ pub fn delete(
     count: usize,
     names: &[u8],
     place: usize,
-) -> Checked
-    ensures { Wrote (delete_said (table handles.now parents.now ends.now marks.old count names.now) place) marks.old (says_checked result) marks.new }
+) -> Result<usize, Refusal>
+    ensures { Wrote (delete_said (table handles.now parents.now ends.now marks.old count names.now) place) marks.old (says_count result) marks.new }
 {
-    match tree::check_table(handles, parents, ends, &*marks, count, names) {
-        Checked::Whole(_) => {
-            if !may_end(&marks[..count], place) {
-                return Checked::Refused(layout::plain(layout::PLACE));
-            }
-            Checked::Whole(fall(&parents[..count], marks, place))
-        }
-        Checked::Refused(f) => Checked::Refused(f),
+    tree::check_table(handles, parents, ends, &*marks, count, names)?;
+    if !may_end(&marks[..count], place) {
+        return Err(layout::plain(layout::PLACE));
     }
+    Ok(fall(&parents[..count], marks, place))
 }
 
 // What ends, by the links: a queue that begins with the place, whose first `i` are done.
@@ -86,6 +80,7 @@ fn fall_queue(
 {
     places[0] = place as u16;
     let mut count: usize = 1;
+    // No range: the queue grows while it is gone through.
     let mut i: usize = 0;
     while i < count {
         let p = places[i] as usize;
@@ -111,6 +106,7 @@ fn unlink(parents: &[u16], marks: &[u8], first: &mut [u16], next: &mut [u16], pl
         first[p] = after;
         return;
     }
+    // No range: the links say which child is next.
     while next[k] as usize != place {
         k = next[k] as usize;
     }
@@ -126,13 +122,11 @@ fn end_all(queue: &[u16], marks: &mut [u8], first: &mut [u16], next: &mut [u16])
     requires marks_in_bounds_2 { length marks.old ≤ length next.old }
     ensures { Cleared queue.now marks.old marks.new × Cleared queue.now first.old first.new × Cleared queue.now next.old next.new }
 {
-    let mut i: usize = 0;
-    while i < queue.len() {
-        let k = queue[i] as usize;
+    for place in queue {
+        let k = *place as usize;
         marks[k] = 0;
         first[k] = 0;
         next[k] = 0;
-        i += 1;
     }
 }
 
@@ -171,18 +165,14 @@ pub fn delete_linked(
     first: &mut [u16],
     next: &mut [u16],
     place: usize,
-) -> Checked
-    ensures { DeletedLinked (table handles.now parents.now ends.now marks.old count names.now) first.old next.old place (says_checked result) marks.new first.new next.new }
+) -> Result<usize, Refusal>
+    ensures { DeletedLinked (table handles.now parents.now ends.now marks.old count names.now) first.old next.old place (says_count result) marks.new first.new next.new }
 {
-    match tree::check_links(
+    tree::check_links(
         handles, parents, ends, &*marks, count, names, &*first, &*next,
-    ) {
-        Checked::Whole(_) => {
-            if !may_end(&marks[..count], place) {
-                return Checked::Refused(layout::plain(layout::PLACE));
-            }
-            Checked::Whole(fall_linked(&parents[..count], marks, first, next, place))
-        }
-        Checked::Refused(f) => Checked::Refused(f),
+    )?;
+    if !may_end(&marks[..count], place) {
+        return Err(layout::plain(layout::PLACE));
     }
+    Ok(fall_linked(&parents[..count], marks, first, next, place))
 }

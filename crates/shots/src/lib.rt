@@ -15,10 +15,3 @@ pub const TAKEN: u8 = 19;
 
 // A new place for what has none.
 pub const GONE: u16 = 65535;
-
-// The place of the object that was added.
-#[derive(Drop)]
-pub enum Added {
-    At(usize),
-    Refused(Refusal),
-}

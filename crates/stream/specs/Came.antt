@@ -1,22 +1,27 @@
--- What a read may give, and a write.
+-- What a read may give, and a write; and what a program may end with.
 -- Assumes nothing.
-use Rattle.std.specs.Prelude.{◌≡◌, Bool, true, false, List, ℕ, ◌≤◌, length}
-use Rattle.stream.specs.declared.Came.{Came}
-use Rattle.stream.specs.declared.Came.TheVariants.{Bytes, Failed}
-use Rattle.stream.specs.declared.Wrote.{Wrote}
-use Rattle.stream.specs.declared.Wrote.TheVariants as wrote
+use Rattle.std.specs.Prelude.{◌≡◌, ◌≢◌, Bool, true, List, ℕ, ◌≤◌, length, IfOk, Option}
+use Rattle.std.specs.Process.{exit_status}
+use Rattle.std.specs.declared.process.ExitCode.{ExitCode}
+use Rattle.std.specs.declared.result.Result.{Result}
+use Rattle.std.specs.declared.result.Result.TheVariants.{Ok, Err}
+use Rattle.stream.specs.declared.Stopped.{Stopped}
+use Rattle.stream.specs.declared.Stopped.TheVariants.{Failed, Gone}
 
 -- no more than there is room for
-abbrev pub within : ℕ → Came → Type 0
-within room (Bytes n) = n ≤ room
-within room Failed = Unit {0}
+abbrev pub within : ℕ → Result ℕ Stopped → Type 0
+within room came = IfOk came (λ n. n ≤ room)
 
 -- where there are no bytes, all are written
 abbrev pub at_once : List ℕ → Bool → Type 0
 at_once bytes done = length bytes ≤ 0 → done ≡ true
 
--- whether all was written
-abbrev pub is_all : Wrote → Bool
-is_all wrote.All = true
-is_all wrote.Failed = false
-is_all wrote.Gone = false
+-- what a program ends with by a turn's answer: 141 where the reader has gone away, else 0
+abbrev pub status_of : {S : Type 0} → Result (Option S) Stopped → ℕ
+status_of (Err Gone) = 141
+status_of (Err Failed) = 0
+status_of (Ok _) = 0
+
+-- a program ends by what a turn answered, or with 1 where its turns have no end
+abbrev pub EndsBy : {S F : Type 0} → (F → S → Result (Option S) Stopped → Type 0) → ExitCode → Type 0
+EndsBy {S} {F} post code = exit_status code ≢ 1 → (f : F) × (s : S) × (r : Result (Option S) Stopped) × post f s r × (exit_status code ≡ status_of r)

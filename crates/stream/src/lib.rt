@@ -3,25 +3,18 @@
 // but a reader that has gone away is not told of, as `cat` does not. What is read and written no contract can say.
 #![tactic(auto)]
 
-ghost use Rattle.stream.specs.Came.{within, at_once, is_all};
-ghost use Rattle.std.specs.Prelude.{◌<◌, ◌≤◌, length, IfOk};
+ghost use Rattle.stream.specs.Came.{within, at_once, EndsBy};
+ghost use Rattle.std.specs.Prelude.{◌<◌, ◌≤◌, length, is_ok, IfOk};
 
 mod reason;
 
 use reason::Reason;
 use std::io::{Error, ErrorKind, Print, Read, Write};
+use std::process::ExitCode;
 
-// What a read gave: so many bytes at the front of the room, none where the input has ended; or a failure, which is told.
-#[derive(Drop)]
-pub enum Came {
-    Bytes(usize),
-    Failed,
-}
-
-// What became of a write: all was written; or it failed, which is told; or the reader has gone away, which is not.
-#[derive(Drop)]
-pub enum Wrote {
-    All,
+// Why a program stops: a read or a write failed, which is told; or the reader has gone away, which is not.
+#[derive(Clone, Copy, PartialEq, Eq, Debug, Drop)]
+pub enum Stopped {
     Failed,
     Gone,
 }
@@ -30,23 +23,29 @@ pub enum Wrote {
 // that signal, so that the write fails in its place.
 pub const GONE: u8 = 141;
 
-// Reads what comes, as much as has room; `what` begins the sentence on a failure, which goes to `told`.
-pub fn read_some<R: Read, P: Print>(from: &mut R, room: &mut [u8], what: &[u8], told: &P) -> Came
+// Reads what comes, as much as has room: so many bytes at its front, none where the input has ended. `what` begins the sentence on a failure,
+// which goes to `told`.
+pub fn read_some<R: Read, P: Print>(
+    from: &mut R,
+    room: &mut [u8],
+    what: &[u8],
+    told: &P,
+) -> Result<usize, Stopped>
     ensures { within (length room.old) result }
 {
     // A bound that no run reaches, though signals interrupt the call: a loop must have one.
     for _ in 0..u64::MAX {
         match from.read(room) {
-            Ok(n) => return Came::Bytes(n),
+            Ok(n) => return Ok(n),
             Err(e) => {
                 if e.kind() != ErrorKind::Interrupted {
                     fail(what, &e, told);
-                    return Came::Failed;
+                    return Err(Stopped::Failed);
                 }
             }
         }
     }
-    Came::Failed
+    Err(Stopped::Failed)
 }
 
 // Tells of a failure. Where that cannot be written either, nobody is there to be told.
@@ -70,7 +69,7 @@ fn write_some<W: Write, P: Print>(
     bytes: &[u8],
     what: &[u8],
     told: &P,
-) -> Result<usize, Wrote>
+) -> Result<usize, Stopped>
     ensures { IfOk result (λ n. (0 < n) × (n ≤ length bytes.now)) }
 {
     // A bound that no run reaches, though signals interrupt the call: a loop must have one.
@@ -79,35 +78,58 @@ fn write_some<W: Write, P: Print>(
             Ok(n) => {
                 if n == 0 {
                     tell_of_none(what, told);
-                    return Err(Wrote::Failed);
+                    return Err(Stopped::Failed);
                 }
                 return Ok(n);
             }
             Err(e) => {
                 let kind = e.kind();
                 if kind == ErrorKind::BrokenPipe {
-                    return Err(Wrote::Gone);
+                    return Err(Stopped::Gone);
                 }
                 if kind != ErrorKind::Interrupted {
                     fail(what, &e, told);
-                    return Err(Wrote::Failed);
+                    return Err(Stopped::Failed);
                 }
             }
         }
     }
-    Err(Wrote::Failed)
+    Err(Stopped::Failed)
 }
 
 // Writes all of the bytes, or says why not. `what` begins the sentence on a failure, which goes to `told`.
-pub fn write_all<W: Write, P: Print>(to: &mut W, bytes: &[u8], what: &[u8], told: &P) -> Wrote
-    ensures { at_once bytes.now (is_all result) }
+pub fn write_all<W: Write, P: Print>(
+    to: &mut W,
+    bytes: &[u8],
+    what: &[u8],
+    told: &P,
+) -> Result<(), Stopped>
+    ensures { at_once bytes.now (is_ok result) }
 {
+    // Counted by hand: each write says itself how far it comes.
     let mut done = 0;
     while done < bytes.len() {
-        match write_some(to, &bytes[done..], what, told) {
-            Ok(n) => done += n,
-            Err(wrote) => return wrote,
+        done += write_some(to, &bytes[done..], what, told)?;
+    }
+    Ok(())
+}
+
+// Takes turns from a stand on, each from what the one before it gave, until one gives none or stops, and answers what the program ends with.
+pub fn run<S: Drop, F: FnMut(S) -> Result<Option<S>, Stopped>>(
+    start: S,
+    mut take_turn: F,
+) -> ExitCode
+    requires { F.IsAlwaysCallable take_turn }
+    ensures { EndsBy F.post result }
+{
+    let mut stand = start;
+    // A bound that no run reaches: a loop must have one, and past it no turn has said what to end with.
+    for _ in 0..u64::MAX {
+        match take_turn(stand) {
+            Ok(Some(next)) => stand = next,
+            Ok(None) | Err(Stopped::Failed) => return ExitCode::SUCCESS,
+            Err(Stopped::Gone) => return ExitCode::from(GONE),
         }
     }
-    Wrote::All
+    ExitCode::FAILURE
 }

@@ -1,6 +1,9 @@
 -- What the folder view is worth, of the functions' own answers: it is what the cycle lists; it holds each live place once, a place right before all that it holds; and it has
 -- the walk's places and paths, each as often, so that both need the same room.
 -- Assumes nothing.
+use Rattle.layout.specs.Answer.{says_count}
+use Rattle.std.specs.declared.result.Result.{Result}
+use Rattle.layout.specs.declared.Refusal.{Refusal}
 use mathlib.Core.Path.{◌≡◌, refl, sym, ap, ◌∙◌}
 use mathlib.Core.Bool.{Bool, true, false, ◌&&◌}
 use mathlib.Core.List.{List, [], ◌∷◌, ◌++◌, map, append_assoc}
@@ -13,8 +16,7 @@ use lib.ListN.{length, get_or, take, drop, length-append}
 use lib.Seq.{take_at, drop_at}
 use Rattle.layout.specs.Answer.{Answer, got, refused, bare, pick}
 use Rattle.layout.specs.Refusals.{ROOM}
-use Rattle.layout.specs.Written.{says, no, Wrote, says_written, answer_of, left_of}
-use Rattle.layout.specs.declared.Written.{Written}
+use Rattle.layout.specs.Written.{says, no, Wrote, answer_of, left_of}
 use Rattle.layout.proofs.laws.Determined.{tells_written}
 use Rattle.layout.proofs.laws.Did.{Whole, whole}
 use Rattle.layout.proofs.laws.Numbers.{zero_one}
@@ -209,8 +211,8 @@ module _ (t : Table) where
       ∙ sym (ap (λ (x : ℕ). taken test (parts 0 (take x e') o')) d ∙ ap (taken test) s.2 ∙ taken_total (rows t) (stops t) t.names test q.order)
 
   -- with as much room for bytes and for ends `folder_paths` answers what `paths` answers: so many bytes, or the same refusal
-  pub same_room : {out ends o e out' ends' o' e' : List ℕ} (x y : Written) → length out ≡ length out' → length ends ≡ length ends'
-      → ViewPaths t out ends (says_written x) o e → AllPaths t out' ends' (says_written y) o' e' → x ≡ y
+  pub same_room : {out ends o e out' ends' o' e' : List ℕ} (x y : (Result ℕ Refusal)) → length out ≡ length out' → length ends ≡ length ends'
+      → ViewPaths t out ends (says_count x) o e → AllPaths t out' ends' (says_count y) o' e' → x ≡ y
   unfolding paths_said answer_of
   same_room {out} {ends} {out' = out'} {ends'} x y f g p q = tells_written x y (p.wrote.answers ∙ of (table_at t) refl ∙ sym q.wrote.answers)
     where

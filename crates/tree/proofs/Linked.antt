@@ -1,6 +1,9 @@
 -- What a table's links are worth: it has one pair, `link` writes it, and chains are the children; what is asked of a table that keeps them is answered as it
 -- is answered by request 8's functions; and a walk along them goes to each live place once.
 -- Assumes nothing.
+use Rattle.layout.specs.Answer.{says_count}
+use Rattle.std.specs.declared.result.Result.{Result}
+use Rattle.layout.specs.declared.Refusal.{Refusal}
 use mathlib.Core.Path.{◌≡◌, refl, sym, ap, ◌∙◌}
 use mathlib.Core.Bool.{Bool, true, false, ◌&&◌}
 use mathlib.Core.List.{List, [], ◌∷◌, ◌++◌}
@@ -9,10 +12,8 @@ use native.Mathlib.Omega.{arith}
 use borrow.Author.Tests.{lt-ltb, le-ltb}
 use lib.Dec.{ltb}
 use lib.ListN.{length, get_or}
-use Rattle.layout.specs.Answer.{Told, Answer, got, refused, bare, pick, says_checked}
+use Rattle.layout.specs.Answer.{Told, Answer, got, refused, bare, pick}
 use Rattle.layout.specs.Refusals.{TABLE}
-use Rattle.layout.specs.Written.{says_written}
-use Rattle.layout.specs.declared.Written.{Written}
 use Rattle.tree.specs.Facts.{Ruled, Marks}
 use Rattle.tree.specs.Kids.{hangs, kids_in, kids}
 use Rattle.tree.specs.Links.{Links, chain, links_ok, link_at, Linked, kept_at, Keeping}
@@ -21,7 +22,6 @@ use Rattle.tree.specs.Path.{Walked, AllPaths}
 use Rattle.tree.specs.Rule.{Rule}
 use Rattle.tree.specs.Table.{Table, rows, flags, live, parent, table_at}
 use Rattle.tree.specs.Way.{Walk}
-use Rattle.layout.specs.declared.Checked.{Checked}
 use Rattle.tree.proofs.Grown.{kids_listed}
 use Rattle.tree.proofs.laws.Below.{by_mark, below, below_root, below_not, below_times}
 use Rattle.tree.proofs.laws.Chains.{chain_kids}
@@ -54,16 +54,16 @@ module _ {ps : List ℕ} (rule : Ruled ps) {has : ℕ → Bool} (marks : Marks p
   chain_listed p = rw (chain_is p) (kids_listed ps rule has marks p)
 
 -- a table that request 8 accepts has one pair of links, and `link` writes it
-pub one_links : (t : Table) {n : ℕ} {fs ns fs' ns' : List ℕ} (r : Checked) → table_at t ≡ got tt n → length fs ≡ 1024 → length ns ≡ 1024 → Linked t fs ns (says_checked r) fs' ns'
-    → (says_checked r ≡ got tt n) × Links (rows t) (live (flags t)) fs' ns' × ((f m : List ℕ) → Links (rows t) (live (flags t)) f m → (f ≡ fs') × (m ≡ ns'))
+pub one_links : (t : Table) {n : ℕ} {fs ns fs' ns' : List ℕ} (r : (Result ℕ Refusal)) → table_at t ≡ got tt n → length fs ≡ 1024 → length ns ≡ 1024 → Linked t fs ns (says_count r) fs' ns'
+    → (says_count r ≡ got tt n) × Links (rows t) (live (flags t)) fs' ns' × ((f m : List ℕ) → Links (rows t) (live (flags t)) f m → (f ≡ fs') × (m ≡ ns'))
 one_links t {n} {fs} {ns} {fs'} {ns'} r e f m l =
-    let said : says_checked r ≡ got tt n = l.answers ∙ link_both t fs ns f m ∙ e in
+    let said : says_count r ≡ got tt n = l.answers ∙ link_both t fs ns f m ∙ e in
     let made = relinked_got said l.left in
     (said, made, λ g h p. one_pair (accepted t (sym e)).marks p made)
 
 -- and any other is refused as the table is, or with 11 for its lists, and leaves them
-pub no_links : (t : Table) {fs ns fs' ns' : List ℕ} (r : Checked) {why : Told} → link_at t fs ns ≡ refused why → Linked t fs ns (says_checked r) fs' ns'
-    → (says_checked r ≡ refused why) × (fs' ≡ fs) × (ns' ≡ ns)
+pub no_links : (t : Table) {fs ns fs' ns' : List ℕ} (r : (Result ℕ Refusal)) {why : Told} → link_at t fs ns ≡ refused why → Linked t fs ns (says_count r) fs' ns'
+    → (says_count r ≡ refused why) × (fs' ≡ fs) × (ns' ≡ ns)
 no_links t r e l = let said = l.answers ∙ e in let same = relinked_refused said l.left in (said, same.0, same.1)
 
 -- ── a table that keeps its links answers as it does without them ──
@@ -72,12 +72,12 @@ module _ (t : Table) {n : ℕ} (e : table_at t ≡ got tt n) {fs ns : List ℕ} 
   right : links_ok t fs ns ≡ true
   right = links-ok (accepted t (sym e)) s
 
-  pub walk_alike : {old new new' : List ℕ} (x y : Written) → Keeping t fs ns (says_written x) (Walked t old (says_written x) new) (new ≡ old) → Walked t old (says_written y) new'
+  pub walk_alike : {old new new' : List ℕ} (x y : (Result ℕ Refusal)) → Keeping t fs ns (says_count x) (Walked t old (says_count x) new) (new ≡ old) → Walked t old (says_count y) new'
       → (x ≡ y) × (new ≡ new')
   walk_alike {old} {new} {new'} x y k w = one_walked t old new new' x y (k.own right) w
 
-  pub paths_alike : {out ends o o' b b' : List ℕ} (x y : Written) → Keeping t fs ns (says_written x) (AllPaths t out ends (says_written x) o b) ((o ≡ out) × (b ≡ ends))
-      → AllPaths t out ends (says_written y) o' b' → (x ≡ y) × (o ≡ o') × (b ≡ b')
+  pub paths_alike : {out ends o o' b b' : List ℕ} (x y : (Result ℕ Refusal)) → Keeping t fs ns (says_count x) (AllPaths t out ends (says_count x) o b) ((o ≡ out) × (b ≡ ends))
+      → AllPaths t out ends (says_count y) o' b' → (x ≡ y) × (o ≡ o') × (b ≡ b')
   paths_alike {out} {ends} {o} {o'} {b} {b'} x y k w = one_paths t out ends x y o o' b b' (k.own right) w
 
 -- with other links it is refused with 11 whatever its names are, and nothing is changed
@@ -88,7 +88,7 @@ module _ (t : Table) (r : Rule t) {fs ns : List ℕ} (no : Links (rows t) (live 
   pub wrong_links : {answer : Answer (Unit {0})} {Promise Unchanged : Type 0} → Keeping t fs ns answer Promise Unchanged → (answer ≡ refused (bare TABLE)) × Unchanged
   wrong_links k = k.other wrong
 
-  pub wrong_checked : (x : Checked) → says_checked x ≡ kept_at t fs ns → says_checked x ≡ refused (bare TABLE)
+  pub wrong_checked : (x : (Result ℕ Refusal)) → says_count x ≡ kept_at t fs ns → says_count x ≡ refused (bare TABLE)
   wrong_checked x e = e ∙ kept_other t fs ns wrong
 
 -- ── a walk is linear ──

@@ -3,14 +3,13 @@
 use mathlib.Core.Path.{◌≡◌, refl, sym, ap, subst, ◌∙◌}
 use mathlib.Core.Bool.{Bool, true, false}
 use mathlib.Core.List.{List, [], ◌∷◌, ◌++◌, append_assoc}
-use Prim.Native.Nat.{ℕ, zero, suc, ◌+◌, ◌-◌, ◌≤◌, ◌<◌}
+use Prim.Native.Nat.{ℕ, zero, suc, ◌+◌, ◌≤◌, ◌<◌}
 use native.Mathlib.Numerals.{add-one}
 use native.Mathlib.Omega.{arith}
 use lib.ListN.{length, get_or, take, drop, set, length-append, take-append-drop}
-use lib.Seq.{sets-eq, take-suc, take_all, drop-cons, take_at, drop_at, take-take, length-take-le, get_or-set_same, get_or-set_other}
+use lib.Seq.{sets-eq, take-suc, take_all, drop-cons, take_at, drop_at, length-take-le, get_or-set_same, get_or-set_other}
 use Rattle.layout.specs.Answer.{pick}
 use Rattle.layout.specs.Written.{put, Put}
-use Rattle.layout.proofs.laws.Reading.{drop_take}
 use Rattle.tree.specs.Facts.{Ruled, Marks, Long, Stands, Above, All}
 use Rattle.tree.specs.Listed.{times, Every, none, more, Sorted, done, next, Listed}
 use Rattle.tree.specs.Table.{parent}
@@ -18,6 +17,7 @@ use Rattle.tree.specs.Way.{way, depth, Before, higher}
 use Rattle.tree.specs.Path.{path_of}
 use Rattle.tree.proofs.laws.Counts.{equal, hit, miss, times_append, every_at, every_map, every_append}
 use Rattle.tree.proofs.laws.Ways.{way_step}
+use Rattle.tree.proofs.Copied.{within_front}
 
 -- ── the parent stands before ──
 
@@ -111,11 +111,6 @@ module _ (ps es ns starts : List ℕ) {out out' : List ℕ} (p : ℕ) {o o' : �
         bytes = rw (s, put_parts w room, drop_at (take o out) (path_of ps es ns p ++ drop (o + length (path_of ps es ns p)) out) o t) (take_at (path_of ps es ns p) (drop (o + length (path_of ps es ns p)) out) (length (path_of ps es ns p)) refl);
       }
 
-  within_front : (a n : ℕ) (l : List ℕ) → a + n ≤ o → take n (drop a l) ≡ take n (drop a (take o l))
-  within_front a n l h =
-      let z : o ≡ a + (o - a) = omega arith in
-      sym (ap (take n) (ap (λ (x : ℕ). drop a (take x l)) z ∙ drop_take a (o - a) l) ∙ take-take n (o - a) (drop a l) (omega arith))
-
   pub stands_on : (k : ℕ) → Stands ps es ns starts out o k → Stands ps es ns (set starts p o) out' o' k
   stands_on k s =
       equal k p
@@ -125,8 +120,8 @@ module _ (ps es ns starts : List ℕ) {out out' : List ℕ} (p : ℕ) {o o' : �
       let b = s.before in
       record {
         before = omega arith;
-        bytes = rw g (within_front (get_or starts k 0) (length (path_of ps es ns k)) out' b ∙ ap (λ (x : List ℕ). take (length (path_of ps es ns k)) (drop (get_or starts k 0) x)) front_same
-            ∙ sym (within_front (get_or starts k 0) (length (path_of ps es ns k)) out b) ∙ s.bytes);
+        bytes = rw g (within_front o (get_or starts k 0) (length (path_of ps es ns k)) out' b ∙ ap (λ (x : List ℕ). take (length (path_of ps es ns k)) (drop (get_or starts k 0) x)) front_same
+            ∙ sym (within_front o (get_or starts k 0) (length (path_of ps es ns k)) out b) ∙ s.bytes);
       })
 
 -- the parent's path put again

@@ -2,14 +2,15 @@
 -- Assumes nothing.
 use mathlib.Core.Path.{◌≡◌, refl, sym, ap, ◌∙◌}
 use mathlib.Core.Bool.{Bool, true, false, ◌&&◌}
-use mathlib.Core.List.{List}
+use mathlib.Core.List.{List, [], ◌∷◌}
 use Prim.Native.Nat.{ℕ, suc, ◌+◌, ◌≤◌, ◌<◌}
-use native.Mathlib.Numerals.{add-one}
+use native.Mathlib.Nat.{add-zero, add-suc, suc-add}
 use native.Mathlib.Omega.{arith}
 use borrow.Author.Tests.{eq-eqb, ne_eqb, le-leb, lt-leb, leb-true, leb-false}
-use lib.Dec.{leb}
-use lib.ListN.{length, get_or, drop, set, replicate, length-replicate, get_or-replicate, length-set, drop_of_length-le, get_or-eq_default}
-use lib.Seq.{get_or-set_same, get_or-set_other, drop-cons}
+use lib.Dec.{leb, eqb}
+use lib.Pointwise.{pointwise}
+use lib.ListN.{length, get_or, set, replicate, length-replicate, get_or-replicate, length-set, get_or-eq_default}
+use lib.Seq.{get_or-set_same, get_or-set_other}
 use Rattle.layout.specs.Answer.{pick}
 use Rattle.tree.specs.Table.{parent}
 use Rattle.tree.specs.Links.{first_of, from, next_at, Linking, agrees}
@@ -73,15 +74,12 @@ zeros n k =
 
 -- ── two lists compared ──
 
-module _ (k : ℕ) (f : ℕ → ℕ) (l : List ℕ) (h : k < length l) where
-  pub agrees_no : (get_or l k 0 ≡ f k → ⊥) → false ≡ agrees k f (drop k l)
-  unfolding agrees
-  agrees_no e = rw (drop-cons l k 0, ne_eqb (get_or l k 0) (f k) e)
-
-  pub agrees_on : get_or l k 0 ≡ f k → agrees (k + 1) f (drop (k + 1) l) ≡ agrees k f (drop k l)
-  unfolding agrees
-  agrees_on e = rw (add-one, drop-cons l k 0, eq-eqb (get_or l k 0) (f k) e)
-
-pub agrees_end : (k : ℕ) (f : ℕ → ℕ) (l : List ℕ) → length l ≤ k → true ≡ agrees k f (drop k l)
+-- a list that is as long as another, entry by entry, where f says what stands in the other from the place k on
+pub compared : (k : ℕ) (f : ℕ → ℕ) (l o : List ℕ) → length l ≡ length o → ((i : ℕ) → i < length o → get_or o i 0 ≡ f (k + i)) → pointwise eqb l o ≡ agrees k f l
 unfolding agrees
-agrees_end k f l h = rw (drop_of_length-le l)
+compared k f [] [] e g = refl
+compared k f [] (y ∷ o) e g = absurd (omega arith)
+compared k f (x ∷ l) [] e g = absurd (omega arith)
+compared k f (x ∷ l) (y ∷ o) e g =
+    let here : y ≡ f k = rw add-zero at (g 0 (omega arith)) in
+    rw (← here) (ap (λ b. eqb x y && b) (compared (suc k) f l o (omega arith) (λ i h. rw (suc-add, ← add-suc) (g (suc i) (omega arith)))))

@@ -1,10 +1,12 @@
 -- The table's rule as a test that goes entry by entry, so that a loop may carry "what is left of the test is the test". (laws/Sound has the facts that it gives.)
 -- Assumes nothing.
 use mathlib.Core.Path.{◌≡◌, refl, sym, ◌∙◌}
-use mathlib.Core.Bool.{true, false, ◌&&◌}
-use mathlib.Core.List.{List}
-use Prim.Native.Nat.{ℕ, suc, ◌+◌, ◌-◌, ◌≤◌, ◌<◌}
+use mathlib.Core.Bool.{Bool, true, false, ◌&&◌, and-eq-true_iff}
+use mathlib.Core.List.{List, [], ◌∷◌}
+use Prim.Native.Nat.{ℕ, zero, suc, ◌+◌, ◌-◌, ◌≤◌, ◌<◌}
+use native.Mathlib.Nat.{add-zero, zero-add, add-suc, suc-add, not-suc-le-zero}
 use native.Mathlib.Numerals.{add-one}
+use Rattle.std.specs.Prelude.{◌↔◌}
 use native.Mathlib.Omega.{arith}
 use borrow.Author.Tests.{lt-ltb, le-ltb, le-leb, lt-leb}
 use lib.ListN.{length, get_or, take, drop, drop_of_length-le}
@@ -15,22 +17,25 @@ use Rattle.layout.proofs.laws.Reading.{follow, stop}
 use Rattle.layout.specs.Refusals.{TABLE}
 use Rattle.tree.specs.Facts.{Ruled}
 use Rattle.tree.specs.Table.{Table, rows, stops, flags, upheld, upheld_from, marks_ok, lists_ok, kept, kept_from, parents_ok, rises_from, start_of, end_of, table_ok, name_at, names_from, table_at}
+use Rattle.tree.proofs.laws.Ruled.{kept_all}
 use Rattle.tree.proofs.laws.Sound.{ruled, cut, listed}
 
 -- ── the parent entries ──
 
-module _ (i : ℕ) (ps : List ℕ) (h : i < length ps) where
-  pub kept_no : kept i (get_or ps i 0) ≡ false → false ≡ kept_from i (drop i ps)
-  unfolding kept_from
-  kept_no e = rw (drop-cons ps i 0, e)
-
-  pub kept_on : kept i (get_or ps i 0) ≡ true → kept_from (i + 1) (drop (i + 1) ps) ≡ kept_from i (drop i ps)
-  unfolding kept_from
-  kept_on e = rw (add-one, drop-cons ps i 0, e)
-
-pub kept_end : (i : ℕ) (ps : List ℕ) → length ps ≤ i → true ≡ kept_from i (drop i ps)
+kept_each : (i : ℕ) (ps : List ℕ) → kept_from i ps ≡ true → (k : ℕ) → k < length ps → kept (i + k) (get_or ps k 0) ≡ true
 unfolding kept_from
-kept_end i ps h = rw (drop_of_length-le ps)
+kept_each i [] e k h = absurd (not-suc-le-zero h)
+kept_each i (p ∷ ps) e zero h = rw add-zero ((and-eq-true_iff (kept i p) (kept_from (suc i) ps)).0 e).0
+kept_each i (p ∷ ps) e (suc k) h = rw (add-suc, ← suc-add) (kept_each (suc i) ps ((and-eq-true_iff (kept i p) (kept_from (suc i) ps)).0 e).1 k (omega arith))
+
+-- a test that says whether all are kept
+pub kept_said : (ps : List ℕ) (b : Bool) → (b ≡ true ↔ ((k : ℕ) → k < length ps → kept k (get_or ps k 0) ≡ true)) → b ≡ kept_from 0 ps
+kept_said ps b e = same b (kept_from 0 ps) (λ t. kept_all ps (e.0 t)) (λ t. e.1 (λ k h. rw zero-add at (kept_each 0 ps t k h)))
+  where
+    same : (b d : Bool) → (b ≡ true → d ≡ true) → (d ≡ true → b ≡ true) → b ≡ d
+    same true d f g = sym (f refl)
+    same false true f g = g refl
+    same false false f g = refl
 
 -- ── the live marks ──
 

@@ -1,13 +1,14 @@
 // The path of a place, by its parent's path. Two passes: measure, then put.
+ghost use Rattle.layout.specs.Answer.{says_count};
 ghost use Rattle.std.specs.Prelude.{◌≡◌, [], ◌∷◌, ◌-◌, ◌≤◌, ◌<◌, eqb, length};
 ghost use Rattle.layout.specs.Answer.{pick};
-ghost use Rattle.layout.specs.Written.{Put, Wrote, roomed, says_written};
+ghost use Rattle.layout.specs.Written.{Put, Wrote, roomed};
 ghost use Rattle.tree.specs.Facts.{Kept};
 ghost use Rattle.tree.specs.Table.{table};
 ghost use Rattle.tree.specs.Path.{path_of, path_said};
 
 use crate::{name, table};
-use layout::{Checked, Written};
+use layout::Refusal;
 
 fn path_len(parents: &[u16], ends: &[u32], names: &[u8], place: usize) -> usize
     requires kept { Kept parents.now ends.now names.now }
@@ -66,22 +67,18 @@ pub fn path(
     names: &[u8],
     place: usize,
     out: &mut [u8],
-) -> Written
-    ensures { Wrote (path_said (table handles.now parents.now ends.now marks.now count names.now) place) out.old (says_written result) out.new }
+) -> Result<usize, Refusal>
+    ensures { Wrote (path_said (table handles.now parents.now ends.now marks.now count names.now) place) out.old (says_count result) out.new }
 {
-    match table::check_table(handles, parents, ends, marks, count, names) {
-        Checked::Whole(_) => {
-            if count <= place {
-                return Written::Refused(layout::plain(layout::PLACE));
-            }
-            if marks[place] == 0 {
-                return Written::Refused(layout::plain(layout::PLACE));
-            }
-            if out.len() < path_len(&parents[..count], &ends[..count], names, place) {
-                return Written::Refused(layout::plain(layout::ROOM));
-            }
-            Written::Done(put_path(&parents[..count], &ends[..count], names, place, out, 0))
-        }
-        Checked::Refused(f) => Written::Refused(f),
+    table::check_table(handles, parents, ends, marks, count, names)?;
+    if count <= place {
+        return Err(layout::plain(layout::PLACE));
     }
+    if marks[place] == 0 {
+        return Err(layout::plain(layout::PLACE));
+    }
+    if out.len() < path_len(&parents[..count], &ends[..count], names, place) {
+        return Err(layout::plain(layout::ROOM));
+    }
+    Ok(put_path(&parents[..count], &ends[..count], names, place, out, 0))
 }

@@ -1,14 +1,15 @@
 // The paths of places end to end, in any order in which a parent stands before its children. Two passes: measure, then put. A place's path is its parent's, copied from where it
 // stands already, the slash, and the name.
+ghost use Rattle.layout.specs.Answer.{says_count};
 ghost use Rattle.std.specs.Prelude.{◌≡◌, ◌+◌, ◌≤◌, ◌<◌, length, take, drop};
-ghost use Rattle.layout.specs.Written.{Put, says_written};
+ghost use Rattle.layout.specs.Written.{Put};
 ghost use Rattle.tree.specs.Facts.{Kept, Listing, Long, Stands, Above, All, PathsGiven};
 ghost use Rattle.tree.specs.Links.{Keeping};
 ghost use Rattle.tree.specs.Table.{table};
 ghost use Rattle.tree.specs.Path.{path_of, joined, ends_from, AllPaths};
 
 use crate::{climb, linking, name, queue, table};
-use layout::{Checked, Written};
+use layout::Refusal;
 
 // How long the path of a place is, where its parent's length is kept.
 fn len_by(parents: &[u16], ends: &[u32], names: &[u8], lens: &[usize], place: usize) -> usize
@@ -40,13 +41,11 @@ fn paths_len(
     ensures { (result ≡ length (joined parents.now ends.now names.now order.now)) × All (Long parents.now ends.now names.now lens.new) order.now × (length lens.new ≡ 1024) }
 {
     let mut need: usize = 0;
-    let mut i: usize = 0;
-    while i < order.len() {
-        let place = order[i] as usize;
+    for place in order {
+        let place = *place as usize;
         let n = len_by(parents, ends, names, &*lens, place);
         lens[place] = n;
         need += n;
-        i += 1;
     }
     need
 }
@@ -57,12 +56,9 @@ fn again(out: &mut [u8], from: usize, n: usize, o: usize) -> usize
     requires n_in_bounds { o + n ≤ length out.old }
     ensures { Put out.old o (take n (drop from out.old)) out.new result }
 {
-    let mut i: usize = 0;
-    while i < n {
-        out[o + i] = out[from + i];
-        i += 1;
-    }
-    o + i
+    let (front, back) = out.split_at_mut(o);
+    back[..n].copy_from_slice(&front[from..from + n]);
+    o + n
 }
 
 // The path of a place, where its parent's stands in the output.
@@ -112,14 +108,12 @@ fn put_paths(
     ensures put_2 { Put out_ends.old 0 (ends_from 0 parents.now ends.now names.now order.now) out_ends.new (length order.now) }
 {
     let mut o: usize = 0;
-    let mut i: usize = 0;
-    while i < order.len() {
-        let place = order[i] as usize;
+    for (i, place) in order.iter().enumerate() {
+        let place = *place as usize;
         let next = put_by(parents, ends, names, lens, &*starts, place, out, o);
         starts[place] = o;
         out_ends[i] = next as u32;
         o = next;
-        i += 1;
     }
     o
 }
@@ -132,20 +126,20 @@ pub(crate) fn give_paths(
     order: &[u16],
     out: &mut [u8],
     out_ends: &mut [u32],
-) -> Written
+) -> Result<usize, Refusal>
     requires { Listing parents.now ends.now names.now order.now }
-    ensures { PathsGiven parents.now ends.now names.now order.now out.old out_ends.old (says_written result) out.new out_ends.new }
+    ensures { PathsGiven parents.now ends.now names.now order.now out.old out_ends.old (says_count result) out.new out_ends.new }
 {
     if out_ends.len() < order.len() {
-        return Written::Refused(layout::plain(layout::ROOM));
+        return Err(layout::plain(layout::ROOM));
     }
     let mut lens = [0usize; 1024];
     let need = paths_len(parents, ends, names, order, &mut lens);
     if out.len() < need {
-        return Written::Refused(layout::plain(layout::ROOM));
+        return Err(layout::plain(layout::ROOM));
     }
     let mut starts = [0usize; 1024];
-    Written::Done(put_paths(
+    Ok(put_paths(
         parents,
         ends,
         names,
@@ -167,24 +161,20 @@ pub fn paths(
     names: &[u8],
     out: &mut [u8],
     out_ends: &mut [u32],
-) -> Written
-    ensures { AllPaths (table handles.now parents.now ends.now marks.now count names.now) out.old out_ends.old (says_written result) out.new out_ends.new }
+) -> Result<usize, Refusal>
+    ensures { AllPaths (table handles.now parents.now ends.now marks.now count names.now) out.old out_ends.old (says_count result) out.new out_ends.new }
 {
-    match table::check_table(handles, parents, ends, marks, count, names) {
-        Checked::Whole(_) => {
-            let mut places = [0u16; 1024];
-            let n = queue::walk_made(&parents[..count], &marks[..count], &mut places);
-            give_paths(
-                &parents[..count],
-                &ends[..count],
-                names,
-                &places[..n],
-                out,
-                out_ends,
-            )
-        }
-        Checked::Refused(f) => Written::Refused(f),
-    }
+    table::check_table(handles, parents, ends, marks, count, names)?;
+    let mut places = [0u16; 1024];
+    let n = queue::walk_made(&parents[..count], &marks[..count], &mut places);
+    give_paths(
+        &parents[..count],
+        &ends[..count],
+        names,
+        &places[..n],
+        out,
+        out_ends,
+    )
 }
 
 // The same of a table that keeps its links.
@@ -199,22 +189,18 @@ pub fn paths_linked(
     next: &[u16],
     out: &mut [u8],
     out_ends: &mut [u32],
-) -> Written
-    ensures { Keeping (table handles.now parents.now ends.now marks.now count names.now) first.now next.now (says_written result) (AllPaths (table handles.now parents.now ends.now marks.now count names.now) out.old out_ends.old (says_written result) out.new out_ends.new) ((out.new ≡ out.old) × (out_ends.new ≡ out_ends.old)) }
+) -> Result<usize, Refusal>
+    ensures { Keeping (table handles.now parents.now ends.now marks.now count names.now) first.now next.now (says_count result) (AllPaths (table handles.now parents.now ends.now marks.now count names.now) out.old out_ends.old (says_count result) out.new out_ends.new) ((out.new ≡ out.old) × (out_ends.new ≡ out_ends.old)) }
 {
-    match linking::check_links(handles, parents, ends, marks, count, names, first, next) {
-        Checked::Whole(_) => {
-            let mut places = [0u16; 1024];
-            let n = queue::walk_ruled(&parents[..count], &marks[..count], first, next, &mut places);
-            give_paths(
-                &parents[..count],
-                &ends[..count],
-                names,
-                &places[..n],
-                out,
-                out_ends,
-            )
-        }
-        Checked::Refused(f) => Written::Refused(f),
-    }
+    linking::check_links(handles, parents, ends, marks, count, names, first, next)?;
+    let mut places = [0u16; 1024];
+    let n = queue::walk_ruled(&parents[..count], &marks[..count], first, next, &mut places);
+    give_paths(
+        &parents[..count],
+        &ends[..count],
+        names,
+        &places[..n],
+        out,
+        out_ends,
+    )
 }

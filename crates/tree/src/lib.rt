@@ -11,7 +11,6 @@ mod view;
 
 pub use climb::path;
 pub use every::{paths, paths_linked};
-pub use layout::Checked;
 use layout::Refusal;
 pub use linking::{check_links, link, put_chain};
 pub use queue::{walk, walk_into, walk_linked};

@@ -1,13 +1,13 @@
 // First child and next sibling of each live place, by one pass from the last place down.
+ghost use Rattle.layout.specs.Answer.{says_count};
 ghost use Rattle.std.specs.Prelude.{◌≡◌, ◌&&◌, ℕ, ◌-◌, length, get_or};
 ghost use Rattle.layout.specs.Written.{Put};
 ghost use Rattle.tree.specs.Facts.{Ruled};
 ghost use Rattle.tree.specs.Table.{table, live};
-ghost use Rattle.layout.specs.Answer.{says_checked};
 ghost use Rattle.tree.specs.Links.{chain_in, first_at, next_at, Linking, agrees, Linked, kept_at};
 
 use crate::table;
-use layout::Checked;
+use layout::Refusal;
 
 // The links of a table that keeps its rule, into lists that hold 0 alone: each live place is put before its later siblings.
 pub(crate) fn link_ruled(parents: &[u16], marks: &[u8], first: &mut [u16], next: &mut [u16])
@@ -16,9 +16,7 @@ pub(crate) fn link_ruled(parents: &[u16], marks: &[u8], first: &mut [u16], next:
     requires linking { Linking parents.now (live marks.now) (length parents.now) first.old next.old }
     ensures { Linking parents.now (live marks.now) 1 first.new next.new }
 {
-    let mut k = parents.len();
-    while 1 < k {
-        k -= 1;
+    for k in (1..parents.len()).rev() {
         if marks[k] != 0 {
             let p = parents[k] as usize;
             next[k] = first[p];
@@ -31,26 +29,7 @@ pub(crate) fn link_ruled(parents: &[u16], marks: &[u8], first: &mut [u16], next:
 fn clear(list: &mut [u16])
     ensures { (length list.new ≡ length list.old) × ((k : ℕ) → get_or list.new k 0 ≡ 0) }
 {
-    let mut k: usize = 0;
-    while k < list.len() {
-        list[k] = 0;
-        k += 1;
-    }
-}
-
-// Whether two lists of the same length have the same entries.
-fn same(list: &[u16], other: &[u16]) -> bool
-    requires { length list.now ≡ length other.now }
-    ensures { result ≡ agrees 0 (λ k. get_or other.now k 0) list.now }
-{
-    let mut k: usize = 0;
-    while k < list.len() {
-        if list[k] != other[k] {
-            return false;
-        }
-        k += 1;
-    }
-    true
+    list.fill(0);
 }
 
 // Whether these are the links of a table that keeps its rule: they are made apart and compared.
@@ -64,18 +43,14 @@ fn same_links(parents: &[u16], marks: &[u8], first: &[u16], next: &[u16]) -> boo
     let mut made_first = [0u16; 1024];
     let mut made_next = [0u16; 1024];
     link_ruled(parents, marks, &mut made_first, &mut made_next);
-    if !same(first, &made_first) {
-        return false;
-    }
-    same(next, &made_next)
+    first == &made_first[..] && next == &made_next[..]
 }
 
 // The link of a place, none where it has no place.
 fn link_of(next: &[u16], k: u16) -> u16
     ensures { result ≡ get_or next.now k 0 }
 {
-    let at = k as usize;
-    if at < next.len() { next[at] } else { 0 }
+    next.get(k as usize).copied().unwrap_or(0)
 }
 
 // Puts a place and its later siblings, along the links, behind the first `count`, as far as there is room.
@@ -84,6 +59,7 @@ pub fn put_chain(next: &[u16], from: u16, places: &mut [u16], count: usize) -> u
 {
     let mut n = count;
     let mut k = from;
+    // No range: the links say which place is next, and the last of them where it ends.
     while n < places.len() {
         if k == 0 {
             return n;
@@ -105,24 +81,20 @@ pub fn link(
     names: &[u8],
     first: &mut [u16],
     next: &mut [u16],
-) -> Checked
-    ensures { Linked (table handles.now parents.now ends.now marks.now count names.now) first.old next.old (says_checked result) first.new next.new }
+) -> Result<usize, Refusal>
+    ensures { Linked (table handles.now parents.now ends.now marks.now count names.now) first.old next.old (says_count result) first.new next.new }
 {
     if first.len() != 1024 {
-        return Checked::Refused(layout::plain(layout::TABLE));
+        return Err(layout::plain(layout::TABLE));
     }
     if next.len() != 1024 {
-        return Checked::Refused(layout::plain(layout::TABLE));
+        return Err(layout::plain(layout::TABLE));
     }
-    match table::check_table(handles, parents, ends, marks, count, names) {
-        Checked::Whole(n) => {
-            clear(first);
-            clear(next);
-            link_ruled(&parents[..count], &marks[..count], first, next);
-            Checked::Whole(n)
-        }
-        Checked::Refused(f) => Checked::Refused(f),
-    }
+    let n = table::check_table(handles, parents, ends, marks, count, names)?;
+    clear(first);
+    clear(next);
+    link_ruled(&parents[..count], &marks[..count], first, next);
+    Ok(n)
 }
 
 // How many objects a table that keeps its links has, or the first refusal: 11, also for other links than its own, then each name's 1, 2, 3.
@@ -135,20 +107,20 @@ pub fn check_links(
     names: &[u8],
     first: &[u16],
     next: &[u16],
-) -> Checked
-    ensures { says_checked result ≡ kept_at (table handles.now parents.now ends.now marks.now count names.now) first.now next.now }
+) -> Result<usize, Refusal>
+    ensures { says_count result ≡ kept_at (table handles.now parents.now ends.now marks.now count names.now) first.now next.now }
 {
     if first.len() != 1024 {
-        return Checked::Refused(layout::plain(layout::TABLE));
+        return Err(layout::plain(layout::TABLE));
     }
     if next.len() != 1024 {
-        return Checked::Refused(layout::plain(layout::TABLE));
+        return Err(layout::plain(layout::TABLE));
     }
     if !table::table_ok(handles, parents, ends, marks, count, names) {
-        return Checked::Refused(layout::plain(layout::TABLE));
+        return Err(layout::plain(layout::TABLE));
     }
     if !same_links(&parents[..count], &marks[..count], first, next) {
-        return Checked::Refused(layout::plain(layout::TABLE));
+        return Err(layout::plain(layout::TABLE));
     }
     table::check_names(&ends[..count], names)
 }

@@ -5,7 +5,7 @@ ghost use Rattle.tree.specs.Facts.{Rising};
 ghost use Rattle.tree.specs.Table.{start_of};
 ghost use Rattle.tree.specs.Path.{name_of};
 
-use wire::{Cursor, Measured};
+use wire::Cursor;
 
 fn start_of(ends: &[u32], k: usize) -> usize
     requires { k < length ends.now }
@@ -21,10 +21,10 @@ pub(crate) fn name_len(ends: &[u32], names: &[u8], k: usize) -> usize
 {
     let from = start_of(ends, k);
     let end = ends[k] as usize;
-    match (Cursor { at: 0 }).utf8_len(&names[from..end]) {
-        Measured::Whole { tidy, next: _ } => tidy,
-        Measured::Refused(_) => 0,
-    }
+    let Ok((len, _)) = (Cursor { at: 0 }).utf8_len(&names[from..end]) else {
+        return 0;
+    };
+    len
 }
 
 pub(crate) fn put_name(ends: &[u32], names: &[u8], k: usize, out: &mut [u8], o: usize) -> usize

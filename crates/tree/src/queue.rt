@@ -1,6 +1,7 @@
 // The walk of a table, breadth first, by a fixed queue.
+ghost use Rattle.layout.specs.Answer.{says_count};
 ghost use Rattle.std.specs.Prelude.{◌≤◌, length, ◌≡◌};
-ghost use Rattle.layout.specs.Written.{Wrote, says, says_written};
+ghost use Rattle.layout.specs.Written.{Wrote, says};
 ghost use Rattle.tree.specs.Facts.{Ruled, Marks};
 ghost use Rattle.tree.specs.Table.{table, live};
 ghost use Rattle.tree.specs.Links.{Linking, Keeping};
@@ -8,7 +9,7 @@ ghost use Rattle.tree.specs.Path.{Walked};
 ghost use Rattle.tree.specs.Says.{Walks, OrderSays};
 
 use crate::{Order, linking, table};
-use layout::{Checked, Written};
+use layout::Refusal;
 
 // The places of a table that keeps its rule, by its links: `places` is the queue, whose first `i` are done. `parents` and `marks` say whose links they are.
 pub(crate) fn walk_ruled(
@@ -27,6 +28,7 @@ pub(crate) fn walk_ruled(
     places[0] = 0;
     let mut count: usize = 1;
     let mut i: usize = 0;
+    // No range: the queue grows while it is gone through.
     while i < count {
         let p = places[i] as usize;
         count = linking::put_chain(next, first[p], places, count);
@@ -62,7 +64,7 @@ pub fn walk(
 {
     let mut places = [0u16; 1024];
     match table::check_table(handles, parents, ends, marks, count, names) {
-        Checked::Whole(_) => {
+        Ok(_) => {
             let n = walk_made(&parents[..count], &marks[..count], &mut places);
             Order {
                 refusal: layout::plain(0),
@@ -70,7 +72,7 @@ pub fn walk(
                 places,
             }
         }
-        Checked::Refused(f) => Order {
+        Err(f) => Order {
             refusal: f,
             count: 0,
             places,
@@ -79,18 +81,15 @@ pub fn walk(
 }
 
 // These places at the front of what was lent; 9 where it is shorter.
-pub(crate) fn give(order: &[u16], places: &mut [u16]) -> Written
-    ensures { Wrote (says order.now) places.old (says_written result) places.new }
+#[tactic(auto, unfolding(layout::specs::Written::answer_of, layout::specs::Written::left_of))]
+pub(crate) fn give(order: &[u16], places: &mut [u16]) -> Result<usize, Refusal>
+    ensures { Wrote (says order.now) places.old (says_count result) places.new }
 {
     if places.len() < order.len() {
-        return Written::Refused(layout::plain(layout::ROOM));
+        return Err(layout::plain(layout::ROOM));
     }
-    let mut i: usize = 0;
-    while i < order.len() {
-        places[i] = order[i];
-        i += 1;
-    }
-    Written::Done(i)
+    places[..order.len()].copy_from_slice(order);
+    Ok(order.len())
 }
 
 // The walk of a table into what was lent: the table's refusals, then 9.
@@ -102,17 +101,13 @@ pub fn walk_into(
     count: usize,
     names: &[u8],
     places: &mut [u16],
-) -> Written
-    ensures { Walked (table handles.now parents.now ends.now marks.now count names.now) places.old (says_written result) places.new }
+) -> Result<usize, Refusal>
+    ensures { Walked (table handles.now parents.now ends.now marks.now count names.now) places.old (says_count result) places.new }
 {
-    match table::check_table(handles, parents, ends, marks, count, names) {
-        Checked::Whole(_) => {
-            let mut queue = [0u16; 1024];
-            let n = walk_made(&parents[..count], &marks[..count], &mut queue);
-            give(&queue[..n], places)
-        }
-        Checked::Refused(f) => Written::Refused(f),
-    }
+    table::check_table(handles, parents, ends, marks, count, names)?;
+    let mut queue = [0u16; 1024];
+    let n = walk_made(&parents[..count], &marks[..count], &mut queue);
+    give(&queue[..n], places)
 }
 
 // The same of a table that keeps its links.
@@ -126,15 +121,11 @@ pub fn walk_linked(
     first: &[u16],
     next: &[u16],
     places: &mut [u16],
-) -> Written
-    ensures { Keeping (table handles.now parents.now ends.now marks.now count names.now) first.now next.now (says_written result) (Walked (table handles.now parents.now ends.now marks.now count names.now) places.old (says_written result) places.new) (places.new ≡ places.old) }
+) -> Result<usize, Refusal>
+    ensures { Keeping (table handles.now parents.now ends.now marks.now count names.now) first.now next.now (says_count result) (Walked (table handles.now parents.now ends.now marks.now count names.now) places.old (says_count result) places.new) (places.new ≡ places.old) }
 {
-    match linking::check_links(handles, parents, ends, marks, count, names, first, next) {
-        Checked::Whole(_) => {
-            let mut queue = [0u16; 1024];
-            let n = walk_ruled(&parents[..count], &marks[..count], first, next, &mut queue);
-            give(&queue[..n], places)
-        }
-        Checked::Refused(f) => Written::Refused(f),
-    }
+    linking::check_links(handles, parents, ends, marks, count, names, first, next)?;
+    let mut queue = [0u16; 1024];
+    let n = walk_ruled(&parents[..count], &marks[..count], first, next, &mut queue);
+    give(&queue[..n], places)
 }

@@ -1,11 +1,11 @@
 // The table's rule: 11, then each name's 1, 2, 3.
+ghost use Rattle.layout.specs.Answer.{says_count};
 ghost use Rattle.std.specs.Prelude.{◌≡◌, ◌&&◌, leb, length, ◌<◌};
 ghost use Rattle.tree.specs.Facts.{Ruled, Rising};
 ghost use Rattle.tree.specs.Table.{table, kept, kept_from, upheld, marks_ok, lists_ok, rises_from, table_ok, name_at, names_from, table_at};
-ghost use Rattle.layout.specs.Answer.{says_checked};
 
-use layout::Checked;
-use wire::{Cursor, ReadPart};
+use layout::Refusal;
+use wire::Cursor;
 
 // Whether a parent entry keeps the rule: 0 at place 0, else smaller than its place.
 fn entry_ok(k: usize, p: usize) -> bool
@@ -17,14 +17,10 @@ fn entry_ok(k: usize, p: usize) -> bool
 fn parents_ok(parents: &[u16]) -> bool
     ensures { result ≡ kept_from 0 parents.now }
 {
-    let mut k: usize = 0;
-    while k < parents.len() {
-        if !entry_ok(k, parents[k] as usize) {
-            return false;
-        }
-        k += 1;
-    }
-    true
+    parents
+        .iter()
+        .enumerate()
+        .all(|(k, p)| entry_ok(k, *p as usize))
 }
 
 // Whether a place hangs under a live one, if it is live.
@@ -39,6 +35,7 @@ fn mark_ok(marks: &[u8], k: usize, p: usize) -> bool
     0 < marks[p]
 }
 
+#[tactic(auto, using(crate::proofs::Tables::upheld_no, crate::proofs::Tables::upheld_on, crate::proofs::Tables::upheld_end))]
 fn marks_ok(parents: &[u16], marks: &[u8]) -> bool
     requires ruled { Ruled parents.now }
     requires marks_len { length marks.now ≡ length parents.now }
@@ -47,12 +44,10 @@ fn marks_ok(parents: &[u16], marks: &[u8]) -> bool
     if marks[0] == 0 {
         return false;
     }
-    let mut k: usize = 1;
-    while k < parents.len() {
+    for k in 1..parents.len() {
         if !mark_ok(marks, k, parents[k] as usize) {
             return false;
         }
-        k += 1;
     }
     true
 }
@@ -64,18 +59,17 @@ fn end_ok(from: usize, end: usize, size: usize) -> bool
     if from <= end { end <= size } else { false }
 }
 
+#[tactic(auto, using(crate::proofs::Tables::rises_no, crate::proofs::Tables::rises_on, crate::proofs::Tables::rises_end))]
 fn ends_ok(ends: &[u32], size: usize) -> bool
     ensures { result ≡ rises_from 0 ends.now size }
 {
     let mut from: usize = 0;
-    let mut k: usize = 0;
-    while k < ends.len() {
-        let end = ends[k] as usize;
+    for end in ends {
+        let end = *end as usize;
         if !end_ok(from, end, size) {
             return false;
         }
         from = end;
-        k += 1;
     }
     true
 }
@@ -125,38 +119,29 @@ pub(crate) fn table_ok(
 }
 
 // A name: wholly one string.
-pub fn check_name(s: &[u8]) -> Checked
-    ensures { says_checked result ≡ name_at s.now }
+#[tactic(auto, unfolding(crate::specs::Table::name_at, layout::specs::Answer::after))]
+pub fn check_name(s: &[u8]) -> Result<usize, Refusal>
+    ensures { says_count result ≡ name_at s.now }
 {
-    match (Cursor { at: 0 }).text(s) {
-        ReadPart::Got(_, next) => {
-            let end = next.at;
-            if end == s.len() {
-                Checked::Whole(end)
-            } else {
-                Checked::Refused(layout::plain(layout::TRAIL))
-            }
-        }
-        ReadPart::Refused(f) => Checked::Refused(f),
+    let (_, next) = (Cursor { at: 0 }).text(s)?;
+    if next.at == s.len() {
+        Ok(next.at)
+    } else {
+        Err(layout::plain(layout::TRAIL))
     }
 }
 
-pub(crate) fn check_names(ends: &[u32], names: &[u8]) -> Checked
+pub(crate) fn check_names(ends: &[u32], names: &[u8]) -> Result<usize, Refusal>
     requires { Rising ends.now (length names.now) }
-    ensures { says_checked result ≡ names_from 0 (length ends.now) ends.now names.now }
+    ensures { says_count result ≡ names_from 0 (length ends.now) ends.now names.now }
 {
     let mut from: usize = 0;
-    let mut k: usize = 0;
-    while k < ends.len() {
-        let end = ends[k] as usize;
-        match check_name(&names[from..end]) {
-            Checked::Whole(_) => {}
-            Checked::Refused(f) => return Checked::Refused(f),
-        }
+    for end in ends {
+        let end = *end as usize;
+        check_name(&names[from..end])?;
         from = end;
-        k += 1;
     }
-    Checked::Whole(k)
+    Ok(ends.len())
 }
 
 // How many objects a table has, or the first refusal: 11, then each name's 1, 2, 3 in table order.
@@ -167,11 +152,11 @@ pub fn check_table(
     marks: &[u8],
     count: usize,
     names: &[u8],
-) -> Checked
-    ensures { says_checked result ≡ table_at (table handles.now parents.now ends.now marks.now count names.now) }
+) -> Result<usize, Refusal>
+    ensures { says_count result ≡ table_at (table handles.now parents.now ends.now marks.now count names.now) }
 {
     if !table_ok(handles, parents, ends, marks, count, names) {
-        return Checked::Refused(layout::plain(layout::TABLE));
+        return Err(layout::plain(layout::TABLE));
     }
     check_names(&ends[..count], names)
 }

@@ -1,13 +1,14 @@
 // The folder view of a table, depth first, by a cycle of two functions: each calls the other on fewer objects.
+ghost use Rattle.layout.specs.Answer.{says_count};
 ghost use Rattle.std.specs.Prelude.{◌≡◌, ◌+◌, ◌≤◌, ◌<◌, length};
-ghost use Rattle.layout.specs.Written.{Put, says_written};
+ghost use Rattle.layout.specs.Written.{Put};
 ghost use Rattle.tree.specs.Facts.{Ruled, Marks};
 ghost use Rattle.tree.specs.Table.{table, live};
 ghost use Rattle.tree.specs.Below.{Down, full, inside, view_of};
 ghost use Rattle.tree.specs.View.{Viewed, ViewPaths};
 
 use crate::{every, linking, queue, table};
-use layout::{Checked, Written};
+use layout::Refusal;
 
 // A place, and then all below it.
 #[cycle(entry_folder)]
@@ -31,6 +32,7 @@ fn folder(first: &[u16], next: &[u16], p: usize, places: &mut [u16], n: usize) -
 {
     let mut m = n;
     let mut k = first[p] as usize;
+    // No range: the links say which entry is next.
     while k != 0 {
         m = entry(first, next, k, places, m);
         k = next[k] as usize;
@@ -61,17 +63,13 @@ pub fn folders_into(
     count: usize,
     names: &[u8],
     places: &mut [u16],
-) -> Written
-    ensures { Viewed (table handles.now parents.now ends.now marks.now count names.now) places.old (says_written result) places.new }
+) -> Result<usize, Refusal>
+    ensures { Viewed (table handles.now parents.now ends.now marks.now count names.now) places.old (says_count result) places.new }
 {
-    match table::check_table(handles, parents, ends, marks, count, names) {
-        Checked::Whole(_) => {
-            let mut view = [0u16; 1024];
-            let n = view_made(&parents[..count], &marks[..count], &mut view);
-            queue::give(&view[..n], places)
-        }
-        Checked::Refused(f) => Written::Refused(f),
-    }
+    table::check_table(handles, parents, ends, marks, count, names)?;
+    let mut view = [0u16; 1024];
+    let n = view_made(&parents[..count], &marks[..count], &mut view);
+    queue::give(&view[..n], places)
 }
 
 // All paths in the order of the folder view, with an end for each: the table's refusals, then 9 for either output.
@@ -84,22 +82,18 @@ pub fn folder_paths(
     names: &[u8],
     out: &mut [u8],
     out_ends: &mut [u32],
-) -> Written
-    ensures { ViewPaths (table handles.now parents.now ends.now marks.now count names.now) out.old out_ends.old (says_written result) out.new out_ends.new }
+) -> Result<usize, Refusal>
+    ensures { ViewPaths (table handles.now parents.now ends.now marks.now count names.now) out.old out_ends.old (says_count result) out.new out_ends.new }
 {
-    match table::check_table(handles, parents, ends, marks, count, names) {
-        Checked::Whole(_) => {
-            let mut view = [0u16; 1024];
-            let n = view_made(&parents[..count], &marks[..count], &mut view);
-            every::give_paths(
-                &parents[..count],
-                &ends[..count],
-                names,
-                &view[..n],
-                out,
-                out_ends,
-            )
-        }
-        Checked::Refused(f) => Written::Refused(f),
-    }
+    table::check_table(handles, parents, ends, marks, count, names)?;
+    let mut view = [0u16; 1024];
+    let n = view_made(&parents[..count], &marks[..count], &mut view);
+    every::give_paths(
+        &parents[..count],
+        &ends[..count],
+        names,
+        &view[..n],
+        out,
+        out_ends,
+    )
 }

@@ -38,31 +38,28 @@ pub fn join(h: Hold, n: usize) -> Hold
 {
     Hold {
         from: h.from,
-        held: std::num::wrapping_add_usize(h.held, n),
+        held: h.held.wrapping_add(n),
         ended: n == 0,
     }
 }
 
 // Moves the bytes from `from` up to `held` to the window's front: how many they are.
+#[tactic(auto, using(crate::proofs::Moving::kept_is))]
 pub fn keep(window: &mut [u8], from: usize, held: usize) -> usize
     ensures { Kept window.old from held result window.new }
 {
-    let end = layout::least(held, window.len());
-    let mut i = 0;
-    let mut j = from;
-    while j < end {
-        window[i] = window[j];
-        i += 1;
-        j += 1;
-    }
-    i
+    let end = held.min(window.len());
+    let start = from.min(end);
+    window.copy_within(start..end, 0);
+    end - start
 }
 
 // The bytes that are still to be treated.
+#[tactic(auto, using(crate::proofs::Moving::part_is))]
 pub fn rest_of(window: &[u8], from: usize, held: usize) -> &[u8]
     ensures { result.now ≡ rest window.now from held }
 {
-    let end = layout::least(held, window.len());
-    let start = layout::least(from, end);
+    let end = held.min(window.len());
+    let start = from.min(end);
     &window[start..end]
 }

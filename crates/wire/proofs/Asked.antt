@@ -1,5 +1,7 @@
 -- The n-th unit of a string and the n-th item of an array are those of the reading, of the functions' own answers at any place: `r` is any answer that the promise allows.
 -- Assumes nothing.
+use Rattle.wire.specs.Read.{Read, says_read}
+use Rattle.wire.specs.declared.value.Value.{Value}
 use mathlib.Core.Path.{◌≡◌, refl, ap, sym, ◌∙◌, subst}
 use mathlib.Core.Bool.{Bool, true, false}
 use mathlib.Core.List.{List}
@@ -21,11 +23,9 @@ use Rattle.layout.proofs.laws.Words.{part_there}
 use Rattle.wire.specs.Asked.{NthOf, found, past}
 use Rattle.wire.specs.Layout.{Kind, width, meaning, Text, Shape, one, many, string, undef, shape}
 use Rattle.wire.specs.Places.{num_at, text_at, array_at, items_in, number_is, shape_at, unit_at, item_of, item_in, item_at}
-use Rattle.wire.specs.Says.{says_u16, says_value}
+use Rattle.wire.specs.Says.{says_value}
 use Rattle.wire.specs.Typed.{ArrayType}
 use Rattle.wire.specs.declared.Part.{Part}
-use Rattle.wire.specs.declared.ReadU16.{ReadU16}
-use Rattle.wire.specs.declared.value.ReadValue.{ReadValue}
 use Rattle.wire.proofs.Agrees.{text_agrees, array_agrees, array_ranged}
 use Rattle.wire.proofs.Spelled.{length_cells, text_stood}
 use Rattle.wire.proofs.Typed.{array_shape, no_array}
@@ -81,17 +81,17 @@ module _ (s : List ℕ) (at n : ℕ) (l : Part) (q : ℕ) where
 
 module _ (s : List ℕ) (at n : ℕ) where
   -- where a string with the units us stands
-  pub unit_asked : (us : List ℕ) (m : ℕ) → Prefix Text (drop at s) us m → (r : ReadU16) → says_u16 r ≡ unit_at n s at → NthOf us (at + 1) 2 n (says_u16 r)
+  pub unit_asked : (us : List ℕ) (m : ℕ) → Prefix Text (drop at s) us m → (r : (Read ℕ)) → says_read r ≡ unit_at n s at → NthOf us (at + 1) 2 n (says_read r)
   unit_asked us m p r promised =
       let (l, e, is) = complete_at text_format (items_in 2 s) (text_agrees s at) (part_there s at m (omega (arith, p.within, length-drop at s))) p.reads in
       subst (NthOf us (at + 1) 2 n) (sym promised) (subst (λ xs. NthOf xs (at + 1) 2 n (unit_at n s at)) is (unit_of_part s at n l (at + m) e))
 
   -- where none does, the string's own refusal
-  pub unit_unread : (t : Told) → text_at s at ≡ refused t → (r : ReadU16) → says_u16 r ≡ unit_at n s at → says_u16 r ≡ refused t
+  pub unit_unread : (t : Told) → text_at s at ≡ refused t → (r : (Read ℕ)) → says_read r ≡ unit_at n s at → says_read r ≡ refused t
   unfolding unit_at after
   unit_unread t e r promised = promised ∙ rw e
 
-  module _ (t : ℕ) (r : ReadValue) (promised : says_value r ≡ item_at t n s at) where
+  module _ (t : ℕ) (r : (Read Value)) (promised : says_value r ≡ item_at t n s at) where
     -- where an array with the numbers xs stands: the item's number, by its kind
     pub item_asked : {k : Kind} → ArrayType t k → (xs : List ℕ) (m : ℕ) → Prefix (Counted 4 (Number (width k))) (drop at s) xs m
         → (y : Answer ℕ) × NthOf xs (at + 4) (width k) n y × (says_value r ≡ means (λ i. number_is (meaning k i)) y)

@@ -1,6 +1,7 @@
 -- What bytes that follow do to the answer of `read_header` and `read_container`: an answer other than 1 and 6 stays, since what it rests on is there already; and
 -- zeros enough after the bytes give such an answer, since then the header and all that it announces are there.
 -- Assumes nothing.
+use Rattle.wire.specs.Read.{Read, says_read}
 use mathlib.Core.Path.{◌≡◌, refl, ap}
 use mathlib.Core.Bool.{Bool, true, false}
 use mathlib.Core.List.{List, ◌++◌, append_assoc}
@@ -14,13 +15,11 @@ use Rattle.layout.specs.Bytes.{Bytes, number}
 use Rattle.layout.specs.Fault.{Stays, same, more, Final}
 use Rattle.layout.specs.Refusals.{SIZE}
 use Rattle.layout.proofs.laws.Final.{Bytes-append, Bytes-zeros, part_stays, stays_after, field_final}
-use Rattle.wire.specs.Container.{is_kind, header_rest, header_at, container_at, says_header, says_container}
+use Rattle.wire.specs.Container.{is_kind, header_rest, header_at, container_at}
 use Rattle.wire.specs.Tests.{◌gives◌else◌, holds, fails, Otherwise, otherwise}
 use Rattle.wire.specs.Refused.{announced, HeaderTests, ContainerSays, Lasts, stays, cut, unfinished, Settled, accepted, no_kind, too_low}
 use Rattle.wire.specs.declared.container.Header.{Header}
 use Rattle.wire.specs.declared.container.Container.{Container}
-use Rattle.wire.specs.declared.container.ReadHeader.{ReadHeader}
-use Rattle.wire.specs.declared.container.ReadContainer.{ReadContainer}
 use Rattle.wire.proofs.laws.Judged.{enough, header_says, container_says}
 
 -- ── what stays ──
@@ -60,10 +59,10 @@ container_final s t at = go (header_at s at) (header_at (s ++ t) at) (header_fin
     go x y (more p) = cut p
 
 module _ (s t : List ℕ) (at : ℕ) where
-  pub header_lasts : (r r' : ReadHeader) → says_header r ≡ header_at s at → says_header r' ≡ header_at (s ++ t) at → Stays (says_header r) (says_header r')
+  pub header_lasts : (r r' : (Read Header)) → says_read r ≡ header_at s at → says_read r' ≡ header_at (s ++ t) at → Stays (says_read r) (says_read r')
   header_lasts r r' e f = rw (e, f) (header_final s t at)
 
-  pub container_lasts : (r r' : ReadContainer) → says_container r ≡ container_at s at → says_container r' ≡ container_at (s ++ t) at → Lasts (says_container r) (says_container r')
+  pub container_lasts : (r r' : (Read Container)) → says_read r ≡ container_at s at → says_read r' ≡ container_at (s ++ t) at → Lasts (says_read r) (says_read r')
   container_lasts r r' e f = rw (e, f) (container_final s t at)
 
 -- ── what can be carried on ──
@@ -95,13 +94,13 @@ module _ (s : List ℕ) (at : ℕ) where
   long : 12 ≤ length (drop at headed)
   long = omega (arith, length-drop at headed, length-append s (zeros (at + 12)), length-replicate {A = ℕ} (at + 12) 0)
 
-  pub header_opens : (t : List ℕ) × (Bytes t × ((r : ReadHeader) → says_header r ≡ header_at (s ++ t) at → Settled (says_header r)))
-  header_opens = (zeros (at + 12), (Bytes-zeros (at + 12), λ r e. header_there at (drop at headed) (says_header r) long done (header_says headed at r e)))
+  pub header_opens : (t : List ℕ) × (Bytes t × ((r : (Read Header)) → says_read r ≡ header_at (s ++ t) at → Settled (says_read r)))
+  header_opens = (zeros (at + 12), (Bytes-zeros (at + 12), λ r e. header_there at (drop at headed) (says_read r) long done (header_says headed at r e)))
     where
       done : {x : Answer Header} {a : Header} {n : ℕ} → Otherwise (got a n) x → Settled x
       done otherwise = accepted
 
-  pub container_opens : (t : List ℕ) × (Bytes t × ((r : ReadContainer) → says_container r ≡ container_at (s ++ t) at → Settled (says_container r)))
+  pub container_opens : (t : List ℕ) × (Bytes t × ((r : (Read Container)) → says_read r ≡ container_at (s ++ t) at → Settled (says_read r)))
   container_opens =
       (zeros (at + 12) ++ zeros m, (Bytes-append (zeros (at + 12)) (zeros m) (Bytes-zeros (at + 12)) (Bytes-zeros m), λ r e. settled r (rw (← append_assoc) at e)))
     where
@@ -114,8 +113,8 @@ module _ (s : List ℕ) (at : ℕ) where
       same_number : announced (drop at whole) ≡ m
       same_number = ap number (part_stays 4 headed (zeros m) at (omega (arith, long, length-drop at headed)))
 
-      settled : (r : ReadContainer) → says_container r ≡ container_at whole at → Settled (says_container r)
+      settled : (r : (Read Container)) → says_read r ≡ container_at whole at → Settled (says_read r)
       settled r e =
           let size = length-append headed (zeros m) in
-          container_there at (drop at whole) (says_container r) (omega (arith, long, length-drop at headed, length-drop at whole)) (omega (arith, long, same_number, length-drop at headed, length-drop at whole, length-replicate {A = ℕ} m 0))
+          container_there at (drop at whole) (says_read r) (omega (arith, long, length-drop at headed, length-drop at whole)) (omega (arith, long, same_number, length-drop at headed, length-drop at whole, length-replicate {A = ℕ} m 0))
           (container_says whole at r e)

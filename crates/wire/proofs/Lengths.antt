@@ -4,19 +4,18 @@
 use mathlib.Core.Path.{◌≡◌, refl, ap, ◌∙◌}
 use mathlib.Core.Bool.{Bool, true, false}
 use mathlib.Core.List.{List, [], ◌∷◌}
-use Prim.Native.Nat.{ℕ, ◌+◌, ◌-◌, ◌/◌, ◌≤◌, ◌<◌}
+use Prim.Native.Nat.{ℕ, ◌+◌, ◌/◌}
 use native.Mathlib.Omega.{arith}
 use borrow.Author.Tests.{eq-eqb, ne_eqb, eqb-true, eqb-false, not-true}
-use lib.ListN.{length, take, drop, length-append}
+use lib.ListN.{length, length-append}
 use Rattle.layout.specs.Answer.{got, pick}
-use Rattle.layout.specs.Bytes.{Bytes, number, cells}
+use Rattle.layout.specs.Bytes.{Bytes}
 use Rattle.layout.proofs.laws.Numbers.{zero_one}
 use Rattle.wire.specs.declared.Part.{Part}
 use Rattle.wire.specs.Layout.{high, low, follows, pairs, paired}
 use Rattle.wire.specs.Places.{text_at}
 use Rattle.wire.specs.Utf8.{pair_point, points, encoded, encoded_all, utf8, Units, unit_len}
 use Rattle.wire.proofs.Spelled.{text_stood}
-use Rattle.wire.proofs.Texts.{cells_cons, cells_none}
 use Rattle.wire.proofs.laws.Points.{four_is, utf8_alone, utf8_pair, text_few}
 
 unfoldable pub units_len : List ℕ → ℕ
@@ -78,13 +77,3 @@ units_long us e = long_after 0 us refl e
 
 pub text_units : (s : List ℕ) → Bytes s → (at : ℕ) (part : Part) (n : ℕ) → got part n ≡ text_at s at → Units s part.start part.count
 text_units s h at part n e = let stood = text_stood s at part n e in record { there = stood.fits; few = text_few s h at part n e; pair = stood.pair }
-
--- ── one by one ──
-
-pub lens_on : (s : List ℕ) (at left : ℕ) → 0 < left → units_len (cells 2 left (drop at s)) ≡ unit_len (number (take 2 (drop at s))) + units_len (cells 2 (left - 1) (drop (at + 2) s))
-unfolding units_len
-lens_on s at left h = rw (cells_cons left s at h)
-
-pub lens_end : (s : List ℕ) (at left : ℕ) → left ≤ 0 → units_len (cells 2 left (drop at s)) ≡ 0
-unfolding units_len
-lens_end s at left h = rw (cells_none left (drop at s) h)

@@ -1,5 +1,6 @@
 -- The fields of the answered records go by their names, of the functions' own answers at any place.
 -- Assumes nothing.
+use Rattle.std.specs.Prelude.{Ok}
 use mathlib.Core.Path.{◌≡◌, refl}
 use mathlib.Core.List.{List, [], ◌∷◌}
 use Prim.Native.Nat.{ℕ, zero, suc, ◌-◌}
@@ -16,11 +17,8 @@ use Rattle.wire.specs.Places.{row_at, row_in}
 use Rattle.wire.specs.Storage.{storage_fields, says_storage}
 use Rattle.wire.specs.declared.Cursor.{Cursor}
 use Rattle.wire.specs.declared.device.DeviceInfo.{DeviceInfo}
-use Rattle.wire.specs.declared.device.ReadDevice.TheVariants as readDevice
 use Rattle.wire.specs.declared.object.ObjectInfo.{ObjectInfo}
-use Rattle.wire.specs.declared.object.ReadObject.TheVariants as readObject
 use Rattle.wire.specs.declared.storage.StorageInfo.{StorageInfo}
-use Rattle.wire.specs.declared.storage.ReadStorage.TheVariants as readStorage
 use Rattle.wire.proofs.Anywhere.{device_exact_at, object_exact_at, storage_exact_at}
 
 -- of no values none has a name
@@ -90,11 +88,11 @@ storage_named s x = record {
 
 -- where a record is accepted, the bytes up to the place after it are its word, and each field of the struct has the value of the field of its name
 module _ (s : List ℕ) (h : Bytes s) (at : ℕ) (c : Cursor) where
-  pub device-fields : (x : DeviceInfo) → says_device (readDevice.Got x c) ≡ row_at device s at → (vs : List Val) × Prefix (Row device) (drop at s) vs (c.at - at) × DeviceNamed s x vs
-  device-fields x promised = (row_in device s (device_fields x), ((device_exact_at s h at (readDevice.Got x c) promised).accepts (device_fields x) c.at refl).1, device_named s x)
+  pub device-fields : (x : DeviceInfo) → says_device (Ok (x, c)) ≡ row_at device s at → (vs : List Val) × Prefix (Row device) (drop at s) vs (c.at - at) × DeviceNamed s x vs
+  device-fields x promised = (row_in device s (device_fields x), ((device_exact_at s h at (Ok (x, c)) promised).accepts (device_fields x) c.at refl).1, device_named s x)
 
-  pub object-fields : (x : ObjectInfo) → says_object (readObject.Got x c) ≡ row_at object s at → (vs : List Val) × Prefix (Row object) (drop at s) vs (c.at - at) × ObjectNamed s x vs
-  object-fields x promised = (row_in object s (object_fields x), ((object_exact_at s h at (readObject.Got x c) promised).accepts (object_fields x) c.at refl).1, object_named s x)
+  pub object-fields : (x : ObjectInfo) → says_object (Ok (x, c)) ≡ row_at object s at → (vs : List Val) × Prefix (Row object) (drop at s) vs (c.at - at) × ObjectNamed s x vs
+  object-fields x promised = (row_in object s (object_fields x), ((object_exact_at s h at (Ok (x, c)) promised).accepts (object_fields x) c.at refl).1, object_named s x)
 
-  pub storage-fields : (x : StorageInfo) → says_storage (readStorage.Got x c) ≡ row_at storage s at → (vs : List Val) × Prefix (Row storage) (drop at s) vs (c.at - at) × StorageNamed s x vs
-  storage-fields x promised = (row_in storage s (storage_fields x), ((storage_exact_at s h at (readStorage.Got x c) promised).accepts (storage_fields x) c.at refl).1, storage_named s x)
+  pub storage-fields : (x : StorageInfo) → says_storage (Ok (x, c)) ≡ row_at storage s at → (vs : List Val) × Prefix (Row storage) (drop at s) vs (c.at - at) × StorageNamed s x vs
+  storage-fields x promised = (row_in storage s (storage_fields x), ((storage_exact_at s h at (Ok (x, c)) promised).accepts (storage_fields x) c.at refl).1, storage_named s x)

@@ -2,12 +2,11 @@
 -- is left.
 -- Assumes nothing.
 use mathlib.Core.Path.{◌≡◌, refl, sym, ap, ◌∙◌}
-use mathlib.Core.Bool.{Bool, true, false}
+use mathlib.Core.Bool.{Bool, true, false, ◌||◌}
 use mathlib.Core.List.{List, [], ◌∷◌, map}
 use mathlib.Core.Logic.{inl, inr}
 use Prim.Native.Nat.{ℕ, zero, suc, ◌+◌, ◌-◌, ◌*◌, ◌^◌, ◌≤◌, ◌<◌}
-use native.Mathlib.Nat.{not-suc-le-zero, suc-mul, zero-mul, add-zero}
-use native.Mathlib.Numerals.{sub-one}
+use native.Mathlib.Nat.{suc-mul, zero-mul, add-zero}
 use native.Mathlib.Omega.{arith}
 use borrow.Author.Tests.{eqb-true, eq-eqb, ne_eqb, le-leb, lt-leb, lt-ltb, le-ltb, ltb-true, ltb-false}
 use lib.Dec.{eqb, ltb}
@@ -70,17 +69,13 @@ eight_word s at h =
 
 -- ── one of the row ──
 
-pub times_less : (n w : ℕ) → 0 < n → n * w ≡ w + (n - 1) * w
-times_less zero w h = absurd (not-suc-le-zero h)
-times_less (suc n) w h = rw sub-one (omega (arith, suc-mul n w))
-
 -- one word more
 pub met : (s : List ℕ) (o left w x : ℕ) (found : Bool) → 0 < left →
-    pick (pick found true (eqb (number (take w (drop o s))) x)) true (is_in x (cells w (left - 1) (drop (o + w) s))) ≡ pick found true (is_in x (cells w left (drop o s)))
+    pick (found || eqb (number (take w (drop o s))) x) true (is_in x (cells w (left - 1) (drop (o + w) s))) ≡ pick found true (is_in x (cells w left (drop o s)))
 unfolding is_in
 met s o left w x found h = rw (cells_on w left s o h) (go found (eqb (number (take w (drop o s))) x))
   where
-    go : (f b : Bool) → pick (pick f true b) true (is_in x (cells w (left - 1) (drop (o + w) s))) ≡ pick f true (pick b true (is_in x (cells w (left - 1) (drop (o + w) s))))
+    go : (f b : Bool) → pick (f || b) true (is_in x (cells w (left - 1) (drop (o + w) s))) ≡ pick f true (pick b true (is_in x (cells w (left - 1) (drop (o + w) s))))
     go true b = refl
     go false true = refl
     go false false = refl

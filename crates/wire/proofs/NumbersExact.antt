@@ -2,6 +2,9 @@
 -- of a type of 8 to 64 bits stand from a place on, their words are given, and only there; 12 is told exactly for any other type, and 1 of the first
 -- integer that is cut.
 -- Assumes nothing.
+use Rattle.layout.specs.Answer.{says_count}
+use Rattle.std.specs.declared.result.Result.{Result}
+use Rattle.layout.specs.declared.Refusal.{Refusal}
 use mathlib.Core.Path.{◌≡◌, refl, sym, ap, subst, ◌∙◌}
 use mathlib.Core.Bool.{Bool, true, false}
 use mathlib.Core.List.{List, [], ◌∷◌, ◌++◌, map}
@@ -18,8 +21,7 @@ use Rattle.layout.specs.Codec.{repeated}
 use Rattle.layout.specs.Format.{Stands}
 use Rattle.layout.specs.Grammar.{loose, Repeat}
 use Rattle.layout.specs.Refusals.{PLACE, ROOM}
-use Rattle.layout.specs.Written.{said_of, Wrote, says_written, answer_of, left_of}
-use Rattle.layout.specs.declared.Written.{Written}
+use Rattle.layout.specs.Written.{said_of, Wrote, answer_of, left_of}
 use Rattle.layout.proofs.laws.Make.{Spanned, there, short, spanned, span_there, repeat_format}
 use Rattle.layout.proofs.laws.Meets.{read_word}
 use Rattle.layout.proofs.laws.Numbers.{zero_one}
@@ -103,10 +105,10 @@ a_list_of absent e i = zero_one (cc)
 
 -- ── the answer ──
 
-module _ (t n : ℕ) (s : List ℕ) (at : ℕ) {old new : List ℕ} (r : Written) (promised : Wrote (said_of (numbers_at t n s at)) old (says_written r) new) where
+module _ (t n : ℕ) (s : List ℕ) (at : ℕ) {old new : List ℕ} (r : (Result ℕ Refusal)) (promised : Wrote (said_of (numbers_at t n s at)) old (says_count r) new) where
   -- the words of these values stand at the front, and so many are told
   abbrev pub Given : List Val → Type 0
-  Given vs = (xs : List ℕ) × Words vs xs × (says_written r ≡ got tt n) × (new ≡ xs ++ drop n old)
+  Given vs = (xs : List ℕ) × Words vs xs × (says_count r ≡ got tt n) × (new ≡ xs ++ drop n old)
 
   -- what is answered where the row is read, or not
   module _ {k : Kind} (p : PlainType t k) where
@@ -150,7 +152,7 @@ module _ (t n : ℕ) (s : List ℕ) (at : ℕ) {old new : List ℕ} (r : Written
       numbers_given = row_given row_read
 
       -- 9 where they have no room
-      pub numbers_9 : length old < n → (says_written r ≡ refused (bare ROOM)) × (new ≡ old)
+      pub numbers_9 : length old < n → (says_count r ≡ refused (bare ROOM)) × (new ≡ old)
       unfolding said_of means answer_of left_of
       numbers_9 less =
           let short : length old < length (map word_of vs) = omega (arith, many row_read) in
@@ -187,16 +189,16 @@ module _ (t n : ℕ) (s : List ℕ) (at : ℕ) {old new : List ℕ} (r : Written
         go (refused v) (short h) f = cc
 
     -- 1 of it
-    pub numbers_1 : Bytes s → ((w : List ℕ) (vs : List Val) (q : ℕ) → Stands s at q w → Repeat n (Value t) loose w vs → ⊥) → (says_written r ≡ refused (end_at place)) × (new ≡ old)
+    pub numbers_1 : Bytes s → ((w : List ℕ) (vs : List Val) (q : ℕ) → Stands s at q w → Repeat n (Value t) loose w vs → ⊥) → (says_count r ≡ refused (end_at place)) × (new ≡ old)
     unfolding said_of means answer_of left_of
     numbers_1 h never = go Row refl
       where
-        go : (x : Answer (List Val)) → Row ≡ x → (says_written r ≡ refused (end_at place)) × (new ≡ old)
+        go : (x : Answer (List Val)) → Row ≡ x → (says_count r ≡ refused (end_at place)) × (new ≡ old)
         go (got vs q) e = let (w, st, g) = read_word (repeat_format n (value_format t)) h e in absurd (never w vs q st g)
         go (refused u) e = (promised.answers ∙ ap (λ y. answer_of y old) (said_read e) ∙ ap refused (refused_there u e), promised.leaves ∙ ap (λ y. left_of y old) (said_read e))
 
     -- and never 12
-    not_12 : says_written r ≡ refused (bare PLACE) → ⊥
+    not_12 : says_count r ≡ refused (bare PLACE) → ⊥
     unfolding said_of means answer_of end_at bare
     not_12 f = go Row refl
       where
@@ -213,7 +215,7 @@ module _ (t n : ℕ) (s : List ℕ) (at : ℕ) {old new : List ℕ} (r : Written
   abbrev Here : ℕ → Type 0
   Here m = (k : Kind) × PlainType t k × (w : List ℕ) × (vs : List Val) × (q : ℕ) × Stands s at q w × Repeat n (Value t) loose w vs × (m ≡ n)
 
-  pub numbers_stand : Bytes s → (m : ℕ) → says_written r ≡ got tt m → Here m
+  pub numbers_stand : Bytes s → (m : ℕ) → says_count r ≡ got tt m → Here m
   unfolding said_of means answer_of
   numbers_stand h m f = go (eqb t 0) refl (leb t 8) refl
     where
@@ -236,14 +238,14 @@ module _ (t n : ℕ) (s : List ℕ) (at : ℕ) {old new : List ℕ} (r : Written
       go false e true i = let (k, p) = type_of t (eqb-false t 0 e) (leb-true t 8 i) in row k p ((repeated n (value t)).read s at) refl
 
   -- 12 exactly for any other type
-  pub numbers_12 : says_written r ≡ refused (bare PLACE) ↔ ((k : Kind) → PlainType t k → ⊥)
+  pub numbers_12 : says_count r ≡ refused (bare PLACE) ↔ ((k : Kind) → PlainType t k → ⊥)
   unfolding said_of answer_of
   numbers_12 = ((λ f k p. not_12 p f), λ never. go never (eqb t 0) refl (leb t 8) refl)
     where
-      other : numbers_at t n s at ≡ refused (bare PLACE) → says_written r ≡ refused (bare PLACE)
+      other : numbers_at t n s at ≡ refused (bare PLACE) → says_count r ≡ refused (bare PLACE)
       other e = promised.answers ∙ ap (λ y. answer_of (said_of y) old) e
 
-      go : ((k : Kind) → PlainType t k → ⊥) → (a : Bool) → eqb t 0 ≡ a → (b : Bool) → leb t 8 ≡ b → says_written r ≡ refused (bare PLACE)
+      go : ((k : Kind) → PlainType t k → ⊥) → (a : Bool) → eqb t 0 ≡ a → (b : Bool) → leb t 8 ≡ b → says_count r ≡ refused (bare PLACE)
       go never true e b i = other (numbers_none t n s at (eqb-true t 0 e))
       go never false e false i = other (numbers_other t n s at (eqb-false t 0 e) (leb-false t 8 i))
       go never false e true i = let (k, p) = type_of t (eqb-false t 0 e) (leb-true t 8 i) in absurd (never k p)

@@ -1,6 +1,13 @@
 -- Which refusal each layout of the byte layer is given: TEXT exactly where the bytes begin with a fault, END exactly where they begin with neither a word nor a fault.
 -- An answer other than END is not changed by bytes that follow, and after END some bytes give one.
 -- Assumes nothing.
+use Rattle.wire.specs.Read.{Read, says_read}
+use Rattle.wire.specs.declared.storage.StorageInfo.{StorageInfo}
+use Rattle.wire.specs.declared.Part.{Part}
+use Rattle.wire.specs.declared.object.ObjectInfo.{ObjectInfo}
+use Rattle.wire.specs.declared.property.PropInfo.{PropInfo}
+use Rattle.wire.specs.declared.device.DeviceInfo.{DeviceInfo}
+use Rattle.wire.specs.declared.value.Value as declared
 use mathlib.Core.Option.{none}
 use mathlib.Core.Bool.{Bool, true, false}
 use mathlib.Core.Path.{◌≡◌, refl}
@@ -16,17 +23,11 @@ use Rattle.wire.specs.Layout.{width, paired, text_count, Text, Shape, one, many,
 use Rattle.wire.specs.Codecs.{all_units, units, text, array, shaped, value, row, three, form_write, formed, form, fields, property, enable}
 use Rattle.wire.specs.Faults.{UnitsFault, TextFault, ShapedFault, ValueFault, RowFault, FormedFault, FormFault, PropertyFault}
 use Rattle.wire.specs.Places.{text_at, value_at, row_at}
-use Rattle.wire.specs.Says.{says_part, says_value}
-use Rattle.wire.specs.declared.ReadPart.{ReadPart}
-use Rattle.wire.specs.declared.value.ReadValue.{ReadValue}
+use Rattle.wire.specs.Says.{says_value}
 use Rattle.wire.specs.Device.{says_device}
-use Rattle.wire.specs.declared.device.ReadDevice.{ReadDevice}
 use Rattle.wire.specs.Object.{says_object}
-use Rattle.wire.specs.declared.object.ReadObject.{ReadObject}
 use Rattle.wire.specs.Storage.{says_storage}
-use Rattle.wire.specs.declared.storage.ReadStorage.{ReadStorage}
 use Rattle.wire.specs.Property.{property_at, says_property}
-use Rattle.wire.specs.declared.property.ReadProperty.{ReadProperty}
 use Rattle.wire.proofs.Described as Described
 use Rattle.wire.proofs.laws.Located as Located
 use Rattle.wire.proofs.laws.Formats.{all_units_format, text_format, value_format, row_format, property_format, enable_format}
@@ -117,20 +118,20 @@ properties there = decides (property_format there) (property_faults there)
 -- ── of the functions' own answers: any answer that a promise allows, at any place, by the bytes from there on ──
 
 module _ (s : List ℕ) (h : Bytes s) (at : ℕ) where
-  pub text_refused : (r : ReadPart) → says_part r ≡ text_at s at → Refuses Text TextFault (drop at s) (says_part r)
-  text_refused r promised = refuses_exactly text_format text_faults Located.texts s h at (says_part r) promised
+  pub text_refused : (r : Read Part) → says_read r ≡ text_at s at → Refuses Text TextFault (drop at s) (says_read r)
+  text_refused r promised = refuses_exactly text_format text_faults Located.texts s h at (says_read r) promised
 
-  pub value_refused : (t : ℕ) (r : ReadValue) → says_value r ≡ value_at t s at → Refuses (Value t) (ValueFault t) (drop at s) (says_value r)
+  pub value_refused : (t : ℕ) (r : Read declared.Value) → says_value r ≡ value_at t s at → Refuses (Value t) (ValueFault t) (drop at s) (says_value r)
   value_refused t r promised = refuses_exactly (value_format t) (value_faults t) (Located.values t) s h at (says_value r) promised
 
-  pub device_refused : (r : ReadDevice) → says_device r ≡ row_at device s at → Refuses (Row device) (RowFault device) (drop at s) (says_device r)
+  pub device_refused : (r : Read DeviceInfo) → says_device r ≡ row_at device s at → Refuses (Row device) (RowFault device) (drop at s) (says_device r)
   device_refused r promised = refuses_exactly (row_format device) (row_faults device) (Located.rows device) s h at (says_device r) promised
 
-  pub object_refused : (r : ReadObject) → says_object r ≡ row_at object s at → Refuses (Row object) (RowFault object) (drop at s) (says_object r)
+  pub object_refused : (r : Read ObjectInfo) → says_object r ≡ row_at object s at → Refuses (Row object) (RowFault object) (drop at s) (says_object r)
   object_refused r promised = refuses_exactly (row_format object) (row_faults object) (Located.rows object) s h at (says_object r) promised
 
-  pub storage_refused : (r : ReadStorage) → says_storage r ≡ row_at storage s at → Refuses (Row storage) (RowFault storage) (drop at s) (says_storage r)
+  pub storage_refused : (r : Read StorageInfo) → says_storage r ≡ row_at storage s at → Refuses (Row storage) (RowFault storage) (drop at s) (says_storage r)
   storage_refused r promised = refuses_exactly (row_format storage) (row_faults storage) (Located.rows storage) s h at (says_storage r) promised
 
-  pub property_refused : (there : Bool) (r : ReadProperty) → says_property r ≡ property_at there s at → Refuses (Property there) (PropertyFault there) (drop at s) (says_property r)
+  pub property_refused : (there : Bool) (r : Read PropInfo) → says_property r ≡ property_at there s at → Refuses (Property there) (PropertyFault there) (drop at s) (says_property r)
   property_refused there r promised = refuses_exactly (property_format there) (property_faults there) (Described.properties there) s h at (says_property r) promised

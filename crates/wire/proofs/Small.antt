@@ -3,7 +3,7 @@
 use mathlib.Core.Path.{◌≡◌, refl, sym, ap, ◌∙◌}
 use mathlib.Core.Bool.{true, false}
 use mathlib.Core.List.{List, [], ◌∷◌, ◌++◌, append-nil}
-use Prim.Native.Nat.{ℕ, suc, ◌+◌, ◌-◌, ◌*◌, ◌/◌, ◌≤◌, ◌<◌}
+use Prim.Native.Nat.{ℕ, suc, ◌+◌, ◌*◌, ◌/◌, ◌≤◌, ◌<◌}
 use native.Mathlib.Numerals.{add-one}
 use native.Mathlib.Omega.{arith}
 use borrow.Author.Tests.{ne_eqb}
@@ -13,7 +13,6 @@ use Rattle.layout.proofs.laws.Reading.{number_front}
 use Rattle.wire.specs.Layout.{high, pairs}
 use Rattle.wire.specs.Utf8.{points, encoded_all, utf8, NoneAbove}
 use Rattle.wire.proofs.Spelled.{length_cells}
-use Rattle.wire.proofs.Texts.{cells_cons, cells_none}
 use Rattle.wire.proofs.laws.Points.{one_is, utf8_alone}
 
 -- ── one by one ──
@@ -21,23 +20,6 @@ use Rattle.wire.proofs.laws.Points.{one_is, utf8_alone}
 pub unit_is : (s : List ℕ) (o : ℕ) → o + 1 < length s → number (take 2 (drop o s)) ≡ get_or s o 0 + 256 * get_or s (o + 1) 0
 unfolding number
 unit_is s o h = rw (number_front s o 1 (omega arith), number_front s (suc o) 0 (omega arith), add-one) (omega arith)
-
-pub above_none : (s : List ℕ) (left m : ℕ) → left ≤ 0 → NoneAbove m (cells 2 left s)
-above_none s left m h = rw (cells_none left s h) tt
-
-module _ (s : List ℕ) (o left : ℕ) (some : 0 < left) (there : o + 1 < length s) where
-  pub above_cons : (m : ℕ) → get_or s o 0 + 256 * get_or s (o + 1) 0 ≤ m → NoneAbove m (cells 2 (left - 1) (drop (o + 2) s)) → NoneAbove m (cells 2 left (drop o s))
-  above_cons m h rest = rw (cells_cons left s o some, unit_is s o there) (h, rest)
-
-  pub unit_cons : (u : ℕ) → u ≡ get_or s o 0 + 256 * get_or s (o + 1) 0 → cells 2 left (drop o s) ≡ u ∷ cells 2 (left - 1) (drop (o + 2) s)
-  unit_cons u is = rw (is, cells_cons left s o some, unit_is s o there)
-
-  module _ (a : NoneAbove 0x7F (cells 2 left (drop o s))) where
-    pub ascii_byte : get_or s o 0 + 256 * get_or s (o + 1) 0 ≤ 0x7F
-    ascii_byte = (rw (cells_cons left s o some, unit_is s o there) at a).0
-
-    pub ascii_rest : NoneAbove 0x7F (cells 2 (left - 1) (drop (o + 2) s))
-    ascii_rest = (rw (cells_cons left s o some) at a).1
 
 pub above_more : {m k : ℕ} (us : List ℕ) → m ≤ k → NoneAbove m us → NoneAbove k us
 above_more [] h a = tt

@@ -1,5 +1,12 @@
 -- The place that each refusal of the byte layer is told of: the first field that the bytes are not read as.
 -- Assumes nothing.
+use Rattle.wire.specs.Read.{Read, says_read}
+use Rattle.wire.specs.declared.storage.StorageInfo.{StorageInfo}
+use Rattle.wire.specs.declared.Part.{Part}
+use Rattle.wire.specs.declared.object.ObjectInfo.{ObjectInfo}
+use Rattle.wire.specs.declared.property.PropInfo.{PropInfo}
+use Rattle.wire.specs.declared.device.DeviceInfo.{DeviceInfo}
+use Rattle.wire.specs.declared.value.Value as declared
 use mathlib.Core.Option.{none}
 use mathlib.Core.Bool.{Bool, true, false}
 use mathlib.Core.Path.{◌≡◌, refl, ap, sym, ◌∙◌, subst}
@@ -19,17 +26,11 @@ use Rattle.wire.specs.Codecs.{text, array, shaped, value, row, three, form_write
 use Rattle.wire.specs.Faults.{TextFault, ValueFault, RowFault, PropertyFault}
 use Rattle.wire.specs.Spots.{ValueSpot, RowSpot, FormedSpot, FormSpot, PropertySpot, EnableSpot}
 use Rattle.wire.specs.Places.{text_at, value_at, row_at}
-use Rattle.wire.specs.Says.{says_part, says_value}
-use Rattle.wire.specs.declared.ReadPart.{ReadPart}
-use Rattle.wire.specs.declared.value.ReadValue.{ReadValue}
+use Rattle.wire.specs.Says.{says_value}
 use Rattle.wire.specs.Device.{says_device}
-use Rattle.wire.specs.declared.device.ReadDevice.{ReadDevice}
 use Rattle.wire.specs.Object.{says_object}
-use Rattle.wire.specs.declared.object.ReadObject.{ReadObject}
 use Rattle.wire.specs.Storage.{says_storage}
-use Rattle.wire.specs.declared.storage.ReadStorage.{ReadStorage}
 use Rattle.wire.specs.Property.{property_at, says_property}
-use Rattle.wire.specs.declared.property.ReadProperty.{ReadProperty}
 use Rattle.wire.proofs.Described as Described
 use Rattle.wire.proofs.laws.Located as Located
 use Rattle.wire.proofs.laws.Formats.{text_format, value_format, row_format, property_format, enable_format}
@@ -141,20 +142,20 @@ property_spotted there = as_spotted reading _ (fields_spotted there)
 -- ── of the functions' own answers: any answer that a promise allows, at any place, by the bytes from there on ──
 
 module _ (s : List ℕ) (h : Bytes s) (at : ℕ) where
-  pub text_points : (r : ReadPart) → says_part r ≡ text_at s at → Points TextFault (Here Text) (drop at s) at (says_part r)
-  text_points r promised = points_exactly text_format text_faults text_spotted Located.texts s h at (says_part r) promised
+  pub text_points : (r : Read Part) → says_read r ≡ text_at s at → Points TextFault (Here Text) (drop at s) at (says_read r)
+  text_points r promised = points_exactly text_format text_faults text_spotted Located.texts s h at (says_read r) promised
 
-  pub value_points : (t : ℕ) (r : ReadValue) → says_value r ≡ value_at t s at → Points (ValueFault t) (ValueSpot t) (drop at s) at (says_value r)
+  pub value_points : (t : ℕ) (r : Read declared.Value) → says_value r ≡ value_at t s at → Points (ValueFault t) (ValueSpot t) (drop at s) at (says_value r)
   value_points t r promised = points_exactly (value_format t) (value_faults t) (value_spotted t) (Located.values t) s h at (says_value r) promised
 
-  pub device_points : (r : ReadDevice) → says_device r ≡ row_at device s at → Points (RowFault device) (RowSpot device) (drop at s) at (says_device r)
+  pub device_points : (r : Read DeviceInfo) → says_device r ≡ row_at device s at → Points (RowFault device) (RowSpot device) (drop at s) at (says_device r)
   device_points r promised = points_exactly (row_format device) (row_faults device) (row_spotted device) (Located.rows device) s h at (says_device r) promised
 
-  pub object_points : (r : ReadObject) → says_object r ≡ row_at object s at → Points (RowFault object) (RowSpot object) (drop at s) at (says_object r)
+  pub object_points : (r : Read ObjectInfo) → says_object r ≡ row_at object s at → Points (RowFault object) (RowSpot object) (drop at s) at (says_object r)
   object_points r promised = points_exactly (row_format object) (row_faults object) (row_spotted object) (Located.rows object) s h at (says_object r) promised
 
-  pub storage_points : (r : ReadStorage) → says_storage r ≡ row_at storage s at → Points (RowFault storage) (RowSpot storage) (drop at s) at (says_storage r)
+  pub storage_points : (r : Read StorageInfo) → says_storage r ≡ row_at storage s at → Points (RowFault storage) (RowSpot storage) (drop at s) at (says_storage r)
   storage_points r promised = points_exactly (row_format storage) (row_faults storage) (row_spotted storage) (Located.rows storage) s h at (says_storage r) promised
 
-  pub property_points : (there : Bool) (r : ReadProperty) → says_property r ≡ property_at there s at → Points (PropertyFault there) (PropertySpot there) (drop at s) at (says_property r)
+  pub property_points : (there : Bool) (r : Read PropInfo) → says_property r ≡ property_at there s at → Points (PropertyFault there) (PropertySpot there) (drop at s) at (says_property r)
   property_points there r promised = points_exactly (property_format there) (property_faults there) (property_spotted there) (Described.properties there) s h at (says_property r) promised

@@ -1,5 +1,7 @@
 -- Containers: u32 length of the whole, u16 kind, u16 code, u32 transaction number, payload.
 -- Assumes nothing.
+use Rattle.std.specs.Prelude.{Ok, Err}
+use Rattle.wire.specs.Read.{Read}
 use Rattle.std.specs.Prelude.{Bool, false, List, [], ◌++◌, ℕ, zero, suc, ◌+◌, ◌-◌, leb, length, get_or}
 use Rattle.layout.specs.Answer.{Answer, got, refused, Reader, pick, after, bare}
 use Rattle.layout.specs.Bytes.{bytes}
@@ -9,10 +11,6 @@ use Rattle.wire.specs.Places.{num_at}
 use Rattle.wire.specs.declared.container.Header.{Header}
 use Rattle.wire.specs.declared.container.Container.{Container}
 use Rattle.wire.specs.declared.container.Command.{Command}
-use Rattle.wire.specs.declared.container.ReadHeader.{ReadHeader}
-use Rattle.wire.specs.declared.container.ReadHeader.TheVariants as readHeader
-use Rattle.wire.specs.declared.container.ReadContainer.{ReadContainer}
-use Rattle.wire.specs.declared.container.ReadContainer.TheVariants as readContainer
 
 -- 1 Command, 2 Data, 3 Response, 4 Event
 unfoldable pub is_kind : ℕ → Bool
@@ -62,11 +60,3 @@ unfoldable pub command_said : Command → ℕ → Said
 command_said c number = pick (leb c.count 5) (container_said 1 c.code number (param_bytes c.count c.params)) (no (bare COUNT))
 
 -- ── this paper's values for each case ──
-
-abbrev pub says_header : ReadHeader → Answer Header
-says_header (readHeader.Got h c) = got h c.at
-says_header (readHeader.Refused t) = refused t
-
-abbrev pub says_container : ReadContainer → Answer Container
-says_container (readContainer.Got x c) = got x c.at
-says_container (readContainer.Refused t) = refused t

@@ -1,11 +1,11 @@
 -- The device record as the code answers it: its fields, in the layout's order, are the row of places that is read.
 -- Assumes nothing.
+use Rattle.std.specs.Prelude.{Ok, Err}
+use Rattle.wire.specs.Read.{Read}
 use Rattle.std.specs.Prelude.{List, [], ◌∷◌}
 use Rattle.layout.specs.Answer.{Answer, got, refused}
 use Rattle.wire.specs.Places.{Located, items, units, whole}
 use Rattle.wire.specs.declared.device.DeviceInfo.{DeviceInfo}
-use Rattle.wire.specs.declared.device.ReadDevice.{ReadDevice}
-use Rattle.wire.specs.declared.device.ReadDevice.TheVariants as readDevice
 
 -- by the crate's names
 abbrev pub device_fields : DeviceInfo → List Located
@@ -26,6 +26,6 @@ device_fields x =
     ∷ units x.serial_number
     ∷ []
 
-abbrev pub says_device : ReadDevice → Answer (List Located)
-says_device (readDevice.Got x c) = got (device_fields x) c.at
-says_device (readDevice.Refused t) = refused t
+abbrev pub says_device : Read DeviceInfo → Answer (List Located)
+says_device (Ok (x, c)) = got (device_fields x) c.at
+says_device (Err t) = refused t

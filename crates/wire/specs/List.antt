@@ -1,5 +1,10 @@
 -- A description's list: its n-th value, where it stands, and what a step finds.
 -- Assumes nothing.
+use Rattle.std.specs.Prelude.{Ok, Err}
+use Rattle.std.specs.declared.result.Result.{Result}
+use Rattle.layout.specs.declared.Refusal.{Refusal}
+use Rattle.wire.specs.declared.Cursor.{Cursor}
+use Rattle.wire.specs.declared.value.Value.{Value}
 use Rattle.std.specs.Prelude.{◌≡◌, Bool, List, ℕ, ◌-◌, eqb, ltb}
 use Rattle.std.specs.Borrow.{Bor}
 use Rattle.layout.specs.Answer.{Answer, got, refused, Reader, pick, after, bare}
@@ -10,11 +15,10 @@ use Rattle.wire.specs.Property.{between, values_at, property_at}
 use Rattle.wire.specs.declared.property.Slot.{Slot}
 use Rattle.wire.specs.Description.{Form, PropInfo}
 use Rattle.wire.specs.Description as form
-use Rattle.wire.specs.declared.list.ReadNth.{ReadNth}
-use Rattle.wire.specs.declared.list.ReadNth.TheVariants as readNth
 use Rattle.wire.specs.declared.list.Place.{Place}
 use Rattle.wire.specs.declared.list.Step.{Step}
-use Rattle.wire.specs.declared.list.Step.TheVariants as step
+use Rattle.std.specs.declared.option.Option as declared
+use Rattle.std.specs.declared.option.Option.TheVariants.{Some, None}
 use Rattle.wire.specs.declared.list.Values.{Values}
 
 -- ── the n-th value, from 0: the reading's refusals, then 12 if absent or no list ──
@@ -34,9 +38,9 @@ nth_in n t form.absent s = refused (bare PLACE)
 unfoldable pub nth_at : Bool → ℕ → List ℕ → Answer (Located × Slot)
 nth_at there n s = after (property_at there s 0) λ x _. nth_in n x.data_type x.form s
 
-abbrev pub says_nth : ReadNth → Answer (Located × Slot)
-says_nth (readNth.Got v p c) = got (located v, p) c.at
-says_nth (readNth.Refused t) = refused t
+abbrev pub says_nth : Result (Value × Slot × Cursor) Refusal → Answer (Located × Slot)
+says_nth (Ok (v, p, c)) = got (located v, p) c.at
+says_nth (Err t) = refused t
 
 -- ── the list handed out ──
 
@@ -73,12 +77,12 @@ stepped left (refused t) = end
 unfoldable pub step_at : List ℕ → ℕ → ℕ → ℕ → ℕ → Stepped
 step_at s t at left refusal = pick (eqb refusal 0) (pick (eqb left 0) end (stepped left (value_at t s at))) end
 
-abbrev pub says_step : Step → Stepped
-says_step (step.Next v at left) = next (located v) at left
-says_step step.End = end
+abbrev pub says_step : declared.Option Step → Stepped
+says_step (Some x) = next (located x.value) x.at x.left
+says_step None = end
 
 -- what a call of `next` answers of the list, and what a call of `moved` makes of it
-abbrev pub Nexts : Values → Step → Type 0
+abbrev pub Nexts : Values → declared.Option Step → Type 0
 Nexts l r = says_step r ≡ step_at l.src.now l.ty l.at l.left l.refusal
 
 abbrev pub Moves : Values → ℕ → ℕ → Values → Type 0

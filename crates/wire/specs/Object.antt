@@ -1,11 +1,11 @@
 -- The object record as the code answers it: its fields, in the layout's order, are the row of places that is read.
 -- Assumes nothing.
+use Rattle.std.specs.Prelude.{Ok, Err}
+use Rattle.wire.specs.Read.{Read}
 use Rattle.std.specs.Prelude.{List, [], ◌∷◌}
 use Rattle.layout.specs.Answer.{Answer, got, refused}
 use Rattle.wire.specs.Places.{Located, units, whole}
 use Rattle.wire.specs.declared.object.ObjectInfo.{ObjectInfo}
-use Rattle.wire.specs.declared.object.ReadObject.{ReadObject}
-use Rattle.wire.specs.declared.object.ReadObject.TheVariants as readObject
 
 -- by the crate's names
 abbrev pub object_fields : ObjectInfo → List Located
@@ -31,6 +31,6 @@ object_fields x =
     ∷ units x.keywords
     ∷ []
 
-abbrev pub says_object : ReadObject → Answer (List Located)
-says_object (readObject.Got x c) = got (object_fields x) c.at
-says_object (readObject.Refused t) = refused t
+abbrev pub says_object : Read ObjectInfo → Answer (List Located)
+says_object (Ok (x, c)) = got (object_fields x) c.at
+says_object (Err t) = refused t

@@ -1,5 +1,7 @@
 -- A property's description as the code answers it, and what it means.
 -- Assumes nothing.
+use Rattle.std.specs.Prelude.{Ok, Err}
+use Rattle.wire.specs.Read.{Read}
 use Rattle.std.specs.Prelude.{Bool, true, false, List, [], ◌∷◌, ℕ, ◌-◌, eqb, take, drop}
 use Rattle.std.proofs.Math.Option.{Option, some, none}
 use Rattle.layout.specs.Answer.{Answer, got, refused, Reader, pick, after, means}
@@ -14,11 +16,9 @@ use Rattle.wire.specs.declared.property.Form as declared
 use Rattle.wire.specs.declared.property.Form.TheVariants as variants
 use Rattle.wire.specs.declared.property.PropLayout.{PropLayout}
 use Rattle.wire.specs.declared.property.PropLayout.TheVariants as layouts
-use Rattle.wire.specs.declared.property.Enable as declared-enable
-use Rattle.wire.specs.declared.property.Enable.TheVariants as enables
+use Rattle.std.specs.declared.option.Option as standard
+use Rattle.std.specs.declared.option.Option.TheVariants.{Some, None}
 use Rattle.wire.specs.declared.property.PropInfo as declared-info
-use Rattle.wire.specs.declared.property.ReadProperty.{ReadProperty}
-use Rattle.wire.specs.declared.property.ReadProperty.TheVariants as readProperty
 
 -- the bytes from a place up to another
 abbrev pub between : ℕ → ℕ → Slot
@@ -91,9 +91,18 @@ abbrev pub has_enable : PropLayout → Bool
 has_enable layouts.Crate = true
 has_enable layouts.Book = false
 
-abbrev pub says_enable : declared-enable.Enable → Option ℕ
-says_enable (enables.There n) = some n
-says_enable enables.Absent = none
+abbrev pub says_enable : standard.Option ℕ → Option ℕ
+says_enable (Some n) = some n
+says_enable None = none
+
+-- what the readers of the byte and of a form answer
+abbrev pub says_enable_read : Read (standard.Option ℕ) → Answer (Option ℕ)
+says_enable_read (Ok (e, c)) = got (says_enable e) c.at
+says_enable_read (Err t) = refused t
+
+abbrev pub says_form_read : Read declared.Form → Answer form.Form
+says_form_read (Ok (f, c)) = got (says_form f) c.at
+says_form_read (Err t) = refused t
 
 abbrev pub info_from : declared-info.PropInfo → PropInfo
 info_from x = record {
@@ -106,9 +115,9 @@ info_from x = record {
   form = says_form x.form;
 }
 
-abbrev pub says_property : ReadProperty → Answer PropInfo
-says_property (readProperty.Got v c) = got (info_from v) c.at
-says_property (readProperty.Refused t) = refused t
+abbrev pub says_property : Read declared-info.PropInfo → Answer PropInfo
+says_property (Ok (v, c)) = got (info_from v) c.at
+says_property (Err t) = refused t
 
 -- ── what places mean ──
 

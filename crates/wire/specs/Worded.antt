@@ -12,6 +12,7 @@ use Rattle.wire.specs.Property.{bytes_of}
 use Rattle.wire.specs.List.{next, end, says_step, Nexts, Moves}
 use Rattle.wire.specs.declared.Part.{Part}
 use Rattle.wire.specs.declared.list.Step.{Step}
+use Rattle.std.specs.declared.option.Option.{Option}
 use Rattle.wire.specs.declared.list.Values.{Values}
 use Rattle.wire.specs.declared.property.Slot.{Slot}
 use Rattle.wire.specs.Description as form
@@ -99,9 +100,9 @@ pub record Nths (t : ℕ) (s : List ℕ) (f : form.Form) (vs : List Val) (k : �
 
 -- the list handed out, called again and again: each `next` gives the next of the values vs, `moved` moves the list behind it, and after the last comes the end
 pub data Yields (t : ℕ) (s : List ℕ) : Values → List Val → Type 0 where
-  ended : {l : Values} → ((r : Step) → Nexts l r → says_step r ≡ end) → Yields t s l []
+  ended : {l : Values} → ((r : Option Step) → Nexts l r → says_step r ≡ end) → Yields t s l []
   yields : {l : Values} {len rest : ℕ} {v : Val} {vs : List Val} → Worded (Value t) s (record { start = l.at; len = len }) v
-      → ((r : Step) → Nexts l r → (x : Located) × (says_step r ≡ next x (l.at + len) rest) × WordedValue s l.at (l.at + len) (shape t) x v)
+      → ((r : Option Step) → Nexts l r → (x : Located) × (says_step r ≡ next x (l.at + len) rest) × WordedValue s l.at (l.at + len) (shape t) x v)
       → ((m : Values) → Moves l (l.at + len) rest m → Yields t s m vs) → Yields t s l (v ∷ vs)
 
 -- a form's list, if it has one

@@ -1,10 +1,12 @@
 // Containers: read, and written.
+ghost use Rattle.wire.specs.Read.{says_read};
+ghost use Rattle.layout.specs.Answer.{says_count};
 ghost use Rattle.std.specs.Prelude.{◌≡◌, ◌*◌, ◌≤◌, length};
-ghost use Rattle.layout.specs.Written.{Wrote, Put, says_written};
-ghost use Rattle.wire.specs.Container.{is_kind, header_rest, header_at, container_at, container_said, param_bytes, command_said, says_header, says_container};
+ghost use Rattle.layout.specs.Written.{Wrote, Put};
+ghost use Rattle.wire.specs.Container.{is_kind, header_rest, header_at, container_at, container_said, param_bytes, command_said};
 
-use crate::{Cursor, Part, Span, field};
-use layout::{Refusal, Written};
+use crate::{Cursor, Part, Read, field};
+use layout::Refusal;
 
 #[derive(Drop)]
 pub struct Header {
@@ -31,18 +33,7 @@ pub struct Command {
     pub count: usize,
 }
 
-#[derive(Drop)]
-pub enum ReadHeader {
-    Got(Header, Cursor),
-    Refused(Refusal),
-}
-
-#[derive(Drop)]
-pub enum ReadContainer {
-    Got(Container, Cursor),
-    Refused(Refusal),
-}
-
+#[tactic(auto, unfolding(crate::specs::Container::is_kind), using(std::proofs::lemmas::Bool::Decides::nat_tests))]
 fn is_kind(kind: u16) -> bool
     ensures { result ≡ is_kind kind }
 {
@@ -53,93 +44,87 @@ fn is_kind(kind: u16) -> bool
 }
 
 // What follows the kind.
-fn header_rest(s: &[u8], c: Cursor, len: u32, kind: u16) -> ReadHeader
-    ensures { says_header result ≡ header_rest len kind s.now c.at }
+#[tactic(auto, unfolding(crate::specs::Container::header_rest, layout::specs::Answer::field_at, layout::specs::Answer::after), using(layout::proofs::laws::Reading::two_there))]
+fn header_rest(s: &[u8], c: Cursor, len: u32, kind: u16) -> Read<Header>
+    ensures { says_read result ≡ header_rest len kind s.now c.at }
 {
     let at = c.at;
-    match field::two_at(s, at, 2, 4) {
-        Span::Till(next) => {
-            if len < 12 {
-                return ReadHeader::Refused(layout::plain(layout::LENGTH));
-            }
-            ReadHeader::Got(
-                Header {
-                    kind,
-                    code: field::word(s, at, 2) as u16,
-                    number: field::word(s, at + 2, 4) as u32,
-                    payload_len: len - 12,
-                },
-                next,
-            )
-        }
-        Span::Refused(f) => ReadHeader::Refused(f),
+    let next = field::two_at(s, at, 2, 4)?;
+    if len < 12 {
+        return Err(layout::plain(layout::LENGTH));
     }
+    let code = field::word(s, at, 2) as u16;
+    let number = field::word(s, at + 2, 4) as u32;
+    let payload_len = len - 12;
+    Ok((
+        Header {
+            kind,
+            code,
+            number,
+            payload_len,
+        },
+        next,
+    ))
 }
 
-pub fn read_header(s: &[u8], c: Cursor) -> ReadHeader
-    ensures { says_header result ≡ header_at s.now c.at }
+#[tactic(auto, unfolding(crate::specs::Container::header_at, layout::specs::Answer::field_at, layout::specs::Answer::after))]
+pub fn read_header(s: &[u8], c: Cursor) -> Read<Header>
+    ensures { says_read result ≡ header_at s.now c.at }
 {
     let at = c.at;
-    match field::two_at(s, at, 4, 2) {
-        Span::Till(rest) => {
-            let kind = field::word(s, at + 4, 2) as u16;
-            if !is_kind(kind) {
-                return ReadHeader::Refused(layout::plain(layout::KIND));
-            }
-            header_rest(s, rest, field::word(s, at, 4) as u32, kind)
-        }
-        Span::Refused(f) => ReadHeader::Refused(f),
+    let rest = field::two_at(s, at, 4, 2)?;
+    let kind = field::word(s, at + 4, 2) as u16;
+    if !is_kind(kind) {
+        return Err(layout::plain(layout::KIND));
     }
+    header_rest(s, rest, field::word(s, at, 4) as u32, kind)
 }
 
-pub fn read_container(s: &[u8], c: Cursor) -> ReadContainer
-    ensures { says_container result ≡ container_at s.now c.at }
+#[tactic(auto, unfolding(crate::specs::Container::container_at, layout::specs::Answer::span_at, layout::specs::Answer::after))]
+pub fn read_container(s: &[u8], c: Cursor) -> Read<Container>
+    ensures { says_read result ≡ container_at s.now c.at }
 {
-    match read_header(s, c) {
-        ReadHeader::Got(h, body) => {
-            let start = body.at;
-            let count = h.payload_len as usize;
-            match field::span_at(s, start, start, count) {
-                Span::Till(next) => ReadContainer::Got(
-                    Container {
-                        kind: h.kind,
-                        code: h.code,
-                        number: h.number,
-                        payload: Part { start, count },
-                    },
-                    next,
-                ),
-                Span::Refused(_) => ReadContainer::Refused(layout::plain(layout::SIZE)),
-            }
-        }
-        ReadHeader::Refused(f) => ReadContainer::Refused(f),
-    }
+    let (h, body) = read_header(s, c)?;
+    let start = body.at;
+    let count = h.payload_len as usize;
+    let Ok(next) = field::span_at(s, start, start, count) else {
+        return Err(layout::plain(layout::SIZE));
+    };
+    Ok((
+        Container {
+            kind: h.kind,
+            code: h.code,
+            number: h.number,
+            payload: Part { start, count },
+        },
+        next,
+    ))
 }
 
-pub fn write_container(kind: u16, code: u16, number: u32, payload: &[u8], out: &mut [u8]) -> Written
-    ensures { Wrote (container_said kind code number payload.now) out.old (says_written result) out.new }
+pub fn write_container(
+    kind: u16,
+    code: u16,
+    number: u32,
+    payload: &[u8],
+    out: &mut [u8],
+) -> Result<usize, Refusal>
+    ensures { Wrote (container_said kind code number payload.now) out.old (says_count result) out.new }
 {
     if !is_kind(kind) {
-        return Written::Refused(layout::plain(layout::KIND));
+        return Err(layout::plain(layout::KIND));
     }
     if payload.len() > 4294967283 {
-        return Written::Refused(layout::plain(layout::COUNT));
+        return Err(layout::plain(layout::COUNT));
     }
     let whole = 12 + payload.len();
     if out.len() < whole {
-        return Written::Refused(layout::plain(layout::ROOM));
+        return Err(layout::plain(layout::ROOM));
     }
     let a = layout::store(out, 0, 4, whole as u64);
     let b = layout::store(out, a, 2, kind as u64);
     let c = layout::store(out, b, 2, code as u64);
     let d = layout::store(out, c, 4, number as u64);
-    Written::Done(layout::copy(payload, 0, payload.len(), out, d))
-}
-
-fn wide(x: u32) -> u64
-    ensures { result ≡ x }
-{
-    x as u64
+    Ok(layout::copy(payload, 0, payload.len(), out, d))
 }
 
 // The first count of the parameters.
@@ -148,20 +133,18 @@ fn put_params(params: &[u32; 5], count: usize, out: &mut [u8]) -> usize
     ensures { Put out.old 0 (param_bytes count params.now) out.new result }
 {
     let mut o = 0;
-    let mut i = 0;
-    while i < count {
-        o = layout::store(out, o, 4, wide(params[i]));
-        i += 1;
+    for param in &params[..count] {
+        o = layout::store(out, o, 4, u64::from(*param));
     }
     o
 }
 
-pub fn write_command(c: Command, number: u32, out: &mut [u8]) -> Written
-    ensures { Wrote (command_said c number) out.old (says_written result) out.new }
+pub fn write_command(c: Command, number: u32, out: &mut [u8]) -> Result<usize, Refusal>
+    ensures { Wrote (command_said c number) out.old (says_count result) out.new }
 {
     let count = c.count;
     if count > 5 {
-        return Written::Refused(layout::plain(layout::COUNT));
+        return Err(layout::plain(layout::COUNT));
     }
     let params = c.params;
     let mut payload = [0u8; 20];

@@ -4,7 +4,7 @@ ghost use Rattle.wire.specs.Layout.{device};
 ghost use Rattle.wire.specs.Places.{row_at};
 ghost use Rattle.wire.specs.Device.{says_device};
 
-use crate::{Cursor, Part, run};
+use crate::{Cursor, Part, Read, Width};
 use layout::Refusal;
 
 #[derive(Drop)]
@@ -25,62 +25,41 @@ pub struct DeviceInfo {
     pub serial_number: Part,
 }
 
-#[derive(Drop)]
-pub enum ReadDevice {
-    Got(DeviceInfo, Cursor),
-    Refused(Refusal),
-}
-
-pub fn device_info(s: &[u8], c: Cursor) -> ReadDevice
+#[tactic(auto, unfolding(crate::specs::Places::row_at, crate::specs::Places::shape_at, layout::specs::Answer::after, layout::specs::Answer::means))]
+pub fn device_info(s: &[u8], c: Cursor) -> Read<DeviceInfo>
     ensures { says_device result ≡ row_at device s.now c.at }
 {
-    let version = run::going(c).number(s, 2);
-    let vendor = version.run.number(s, 4);
-    let edition = vendor.run.number(s, 2);
-    let about = edition.run.text(s);
-    let mode = about.run.number(s, 2);
-    let operations = mode.run.items(s);
-    let events = operations.run.items(s);
-    let properties = events.run.items(s);
-    let captures = properties.run.items(s);
-    let images = captures.run.items(s);
-    let maker = images.run.text(s);
-    let name = maker.run.text(s);
-    let firmware = name.run.text(s);
-    let serial = firmware.run.text(s);
-    let end = serial.run;
-    let next = end.next;
-    let why = end.why;
-    let vendor_extension_desc = about.v;
-    let operations_supported = operations.v;
-    let events_supported = events.v;
-    let device_properties_supported = properties.v;
-    let capture_formats = captures.v;
-    let image_formats = images.v;
-    let manufacturer = maker.v;
-    let model = name.v;
-    let device_version = firmware.v;
-    let serial_number = serial.v;
-    if end.ok {
-        return ReadDevice::Got(
-            DeviceInfo {
-                version: version.v as u16,
-                vendor_ex_id: vendor.v as u32,
-                vendor_ex_version: edition.v as u16,
-                vendor_extension_desc,
-                functional_mode: mode.v as u16,
-                operations_supported,
-                events_supported,
-                device_properties_supported,
-                capture_formats,
-                image_formats,
-                manufacturer,
-                model,
-                device_version,
-                serial_number,
-            },
-            next,
-        );
-    }
-    ReadDevice::Refused(why)
+    let (version, c) = c.u16(s)?;
+    let (vendor_ex_id, c) = c.u32(s)?;
+    let (vendor_ex_version, c) = c.u16(s)?;
+    let (vendor_extension_desc, c) = c.text(s)?;
+    let (functional_mode, c) = c.u16(s)?;
+    let (operations_supported, c) = c.array(s, Width::Two)?;
+    let (events_supported, c) = c.array(s, Width::Two)?;
+    let (device_properties_supported, c) = c.array(s, Width::Two)?;
+    let (capture_formats, c) = c.array(s, Width::Two)?;
+    let (image_formats, c) = c.array(s, Width::Two)?;
+    let (manufacturer, c) = c.text(s)?;
+    let (model, c) = c.text(s)?;
+    let (device_version, c) = c.text(s)?;
+    let (serial_number, next) = c.text(s)?;
+    Ok((
+        DeviceInfo {
+            version,
+            vendor_ex_id,
+            vendor_ex_version,
+            vendor_extension_desc,
+            functional_mode,
+            operations_supported,
+            events_supported,
+            device_properties_supported,
+            capture_formats,
+            image_formats,
+            manufacturer,
+            model,
+            device_version,
+            serial_number,
+        },
+        next,
+    ))
 }

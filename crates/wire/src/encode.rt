@@ -8,17 +8,11 @@ use crate::text;
 
 // ── below 0x80 ──
 
-fn lesser(a: u16, b: u16) -> u16
-    ensures { (result ≤ b) × (a ≤ b → result ≡ a) }
-{
-    if a < b { a } else { b }
-}
-
 // A unit below 0x80 is its own low byte. The least of it and 0x7F is taken so that the compiler keeps whole units, and takes sixteen at a time.
 fn ascii_of(u: u16) -> u8
     ensures { u ≤ 0x7F → result ≡ u }
 {
-    lesser(u, 0x7F) as u8
+    u.min(0x7F) as u8
 }
 
 // Units below 0x80, of each its byte.
@@ -28,16 +22,10 @@ fn put_ascii(s: &[u8], start: usize, count: usize, out: &mut [u8], o: usize) -> 
     requires count_in_bounds_2 { count ≤ length out.old - o }
     ensures { Put out.old o (utf8 (cells 2 count (drop start s.now))) out.new result }
 {
-    let mut at = start;
-    let mut left = count;
-    let mut next = o;
-    while 0 < left {
-        out[next] = ascii_of(text::unit_of(s[at], s[at + 1]));
-        at += 2;
-        left -= 1;
-        next += 1;
+    for i in 0..count {
+        out[o + i] = ascii_of(text::unit_at(&*s, start + i * 2));
     }
-    next
+    o + count
 }
 
 // ── a code point ──
@@ -120,7 +108,7 @@ fn put_point(c: u32, out: &mut [u8], o: usize) -> usize
     layout::store(out, o, 4, four_bytes(c) as u64)
 }
 
-// One code point at a time, each by its own bytes.
+// One code point at a time, each by its own bytes. Counted by hand: one takes a unit or two, so no range counts them.
 fn put_points(s: &[u8], start: usize, count: usize, out: &mut [u8], o: usize) -> usize
     requires count_in_bounds { count * 2 ≤ length s.now - start }
     requires s_in_bounds { length (utf8 (cells 2 count (drop start s.now))) ≤ length out.old - o }
@@ -248,6 +236,7 @@ fn put_word(value: u32, out: &mut [u8], o: usize)
 }
 
 // A word at a time while four units are left: each needs a byte at the least, so a whole word has room in what is still to be written.
+// Counted by hand: a word takes one to four units, so no range counts them.
 fn put_words(s: &[u8], start: usize, count: usize, out: &mut [u8], o: usize) -> usize
     requires count_in_bounds { count * 2 ≤ length s.now - start }
     requires s_in_bounds { length (utf8 (cells 2 count (drop start s.now))) ≤ length out.old - o }

@@ -1,7 +1,8 @@
 // Writers that are given numbers: an integer, a string's units, an array's item bytes.
+ghost use Rattle.layout.specs.Answer.{says_count};
 ghost use Rattle.std.specs.Prelude.{◌≡◌, ◌+◌, ◌*◌, ◌≤◌, ◌<◌, ◌^◌, length};
 ghost use Rattle.layout.specs.Bytes.{bytes};
-ghost use Rattle.layout.specs.Written.{Wrote, Put, says, says_written};
+ghost use Rattle.layout.specs.Written.{Wrote, Put, says};
 ghost use Rattle.wire.specs.Layout.{paired};
 ghost use Rattle.wire.specs.Codecs.{unsigned};
 ghost use Rattle.wire.specs.Tidy.{spelled};
@@ -9,7 +10,7 @@ ghost use Rattle.wire.specs.Given.{integer_word, integer_bits, text_said, items_
 
 use crate::kind::Shape;
 use crate::{Pair, field, kind, text};
-use layout::Written;
+use layout::Refusal;
 
 // A number with its type; 128-bit ones by their halves. UNDEF writes nothing.
 #[derive(Drop)]
@@ -55,6 +56,7 @@ fn signed_bits(front: usize, z: i64) -> Bits
 }
 
 // The low half first.
+#[tactic(auto, using(crate::proofs::laws::Numbered::pair_word))]
 fn pair_bits(p: Pair) -> Bits
     ensures { (integer_bits result ≡ bytes 16 (p.high * 0x10000000000000000 + p.low)) × (result.front ≤ 8) × (result.back ≤ 8) }
 {
@@ -84,35 +86,27 @@ fn bits_of(v: Integer) -> Bits
     }
 }
 
-pub fn write_integer(v: Integer, out: &mut [u8]) -> Written
-    ensures { Wrote (says (integer_word v)) out.old (says_written result) out.new }
+pub fn write_integer(v: Integer, out: &mut [u8]) -> Result<usize, Refusal>
+    ensures { Wrote (says (integer_word v)) out.old (says_count result) out.new }
 {
     let b = bits_of(v);
     if out.len() < b.front + b.back {
-        return Written::Refused(layout::plain(layout::ROOM));
+        return Err(layout::plain(layout::ROOM));
     }
     let a = layout::store(out, 0, b.front, b.low);
-    Written::Done(layout::store(out, a, b.back, b.high))
-}
-
-fn wide16(x: u16) -> u64
-    ensures { (result ≡ x) × (result < 65536) }
-{
-    x as u64
+    Ok(layout::store(out, a, b.back, b.high))
 }
 
 fn units_paired(units: &[u16]) -> bool
     ensures { result ≡ paired units.now }
 {
     let mut last: u64 = 0;
-    let mut i: usize = 0;
-    while i < units.len() {
-        let u = wide16(units[i]);
+    for unit in units {
+        let u = u64::from(*unit);
         if !text::follows(last, u) {
             return false;
         }
         last = u;
-        i += 1;
     }
     last / 1024 != 54
 }
@@ -123,10 +117,8 @@ fn put_units(units: &[u16], out: &mut [u8], at: usize) -> usize
     ensures { Put out.old at (units_word units.now) out.new result }
 {
     let mut o = at;
-    let mut i: usize = 0;
-    while i < units.len() {
-        o = layout::store(out, o, 2, wide16(units[i]));
-        i += 1;
+    for unit in units {
+        o = layout::store(out, o, 2, u64::from(*unit));
     }
     o
 }
@@ -152,49 +144,48 @@ fn text_len(n: usize) -> usize
 }
 
 // A string of these units: 2, then 10 over 254 units, then 9.
-pub fn write_text(units: &[u16], out: &mut [u8]) -> Written
-    ensures { Wrote (text_said units.now) out.old (says_written result) out.new }
+pub fn write_text(units: &[u16], out: &mut [u8]) -> Result<usize, Refusal>
+    ensures { Wrote (text_said units.now) out.old (says_count result) out.new }
 {
     if !units_paired(units) {
-        return Written::Refused(layout::plain(layout::TEXT));
+        return Err(layout::plain(layout::TEXT));
     }
     if 254 < units.len() {
-        return Written::Refused(layout::plain(layout::COUNT));
+        return Err(layout::plain(layout::COUNT));
     }
     if out.len() < text_len(units.len()) {
-        return Written::Refused(layout::plain(layout::ROOM));
+        return Err(layout::plain(layout::ROOM));
     }
-    Written::Done(put_text(units, out))
+    Ok(put_text(units, out))
 }
 
 // Items of w bytes each: 10 where they are not whole or too many, then 9.
-fn write_items(w: usize, items: &[u8], out: &mut [u8]) -> Written
+fn write_items(w: usize, items: &[u8], out: &mut [u8]) -> Result<usize, Refusal>
     requires { 0 < w }
-    ensures { Wrote (items_said w items.now) out.old (says_written result) out.new }
+    ensures { Wrote (items_said w items.now) out.old (says_count result) out.new }
 {
     let size = items.len();
     if size % w != 0 {
-        return Written::Refused(layout::plain(layout::COUNT));
+        return Err(layout::plain(layout::COUNT));
     }
     let n = size / w;
     if 0xFFFF_FFFF < n {
-        return Written::Refused(layout::plain(layout::COUNT));
+        return Err(layout::plain(layout::COUNT));
     }
     if out.len() < size + 4 {
-        return Written::Refused(layout::plain(layout::ROOM));
+        return Err(layout::plain(layout::ROOM));
     }
     let a = layout::store(out, 0, 4, n as u64);
-    Written::Done(layout::copy(items, 0, size, out, a))
+    Ok(layout::copy(items, 0, size, out, a))
 }
 
 // An array from its type code and its items' bytes: 12 where the code is no array's.
-pub fn write_array(code: u16, items: &[u8], out: &mut [u8]) -> Written
-    ensures { Wrote (array_said code items.now) out.old (says_written result) out.new }
+#[tactic(auto, unfolding(crate::specs::Given::shape_said, layout::specs::Answer::bare), using(layout::proofs::laws::Writing::refusal))]
+pub fn write_array(code: u16, items: &[u8], out: &mut [u8]) -> Result<usize, Refusal>
+    ensures { Wrote (array_said code items.now) out.old (says_count result) out.new }
 {
     match kind::shape_of(code) {
         Shape::Many(k) => write_items(kind::width_of(k), items, out),
-        Shape::One(_) => Written::Refused(layout::plain(layout::PLACE)),
-        Shape::Text => Written::Refused(layout::plain(layout::PLACE)),
-        Shape::Undef => Written::Refused(layout::plain(layout::PLACE)),
+        _ => Err(layout::plain(layout::PLACE)),
     }
 }

@@ -22,12 +22,6 @@ pub enum Kind {
 }
 
 #[derive(Drop)]
-pub enum Known {
-    Is(Kind),
-    Unknown,
-}
-
-#[derive(Drop)]
 pub enum Shape {
     One(Kind),
     Many(Kind),
@@ -36,22 +30,21 @@ pub enum Shape {
 }
 
 // The kind of number of a type code from 1 to 10.
-fn kind_of(code: u16) -> Known
+fn kind_of(code: u16) -> Option<Kind>
     ensures { says_known result ≡ get_or kinds code none }
 {
     match code {
-        0 => Known::Unknown,
-        1 => Known::Is(Kind::I8),
-        2 => Known::Is(Kind::U8),
-        3 => Known::Is(Kind::I16),
-        4 => Known::Is(Kind::U16),
-        5 => Known::Is(Kind::I32),
-        6 => Known::Is(Kind::U32),
-        7 => Known::Is(Kind::I64),
-        8 => Known::Is(Kind::U64),
-        9 => Known::Is(Kind::I128),
-        10 => Known::Is(Kind::U128),
-        _ => Known::Unknown,
+        1 => Some(Kind::I8),
+        2 => Some(Kind::U8),
+        3 => Some(Kind::I16),
+        4 => Some(Kind::U16),
+        5 => Some(Kind::I32),
+        6 => Some(Kind::U32),
+        7 => Some(Kind::I64),
+        8 => Some(Kind::U64),
+        9 => Some(Kind::I128),
+        10 => Some(Kind::U128),
+        _ => None,
     }
 }
 
@@ -62,14 +55,15 @@ pub(crate) fn item_of(code: u16) -> u16
     if code < 0x4000 { 0 } else { code - 0x4000 }
 }
 
+#[tactic(auto, unfolding(crate::specs::Layout::shape))]
 pub(crate) fn shape_of(code: u16) -> Shape
     ensures { says_shape result ≡ shape code }
 {
     match kind_of(code) {
-        Known::Is(k) => Shape::One(k),
-        Known::Unknown => match kind_of(item_of(code)) {
-            Known::Is(k) => Shape::Many(k),
-            Known::Unknown => {
+        Some(k) => Shape::One(k),
+        None => match kind_of(item_of(code)) {
+            Some(k) => Shape::Many(k),
+            None => {
                 if code == STRING {
                     Shape::Text
                 } else {
@@ -102,7 +96,7 @@ pub fn integer_width(code: u16) -> usize
     ensures { result ≡ integer_width code }
 {
     match kind_of(code) {
-        Known::Is(k) => width_of(k),
-        Known::Unknown => 0,
+        Some(k) => width_of(k),
+        None => 0,
     }
 }

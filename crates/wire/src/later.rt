@@ -3,8 +3,7 @@ ghost use Rattle.std.specs.Prelude.{◌≡◌};
 ghost use Rattle.wire.specs.Property.{has_enable};
 ghost use Rattle.wire.specs.Newer.{newer_of, newer_bytes};
 
-use crate::property::{PropLayout, ReadProperty};
-use crate::value::ReadValue;
+use crate::property::PropLayout;
 use crate::{Cursor, property, value};
 
 // A part of the payload or of the description.
@@ -19,18 +18,18 @@ pub fn newer_place(l: PropLayout, description: &[u8], payload: &[u8]) -> Chosen
     ensures { result ≡ newer_of (has_enable l) description.now payload.now }
 {
     match property::property_info(l, description, Cursor { at: 0 }) {
-        ReadProperty::Refused(_) => Chosen {
+        Err(_) => Chosen {
             of_payload: false,
             start: 0,
             len: 0,
         },
-        ReadProperty::Got(p, _) => match value::whole_value(payload, p.data_type) {
-            ReadValue::Got(_, _) => Chosen {
+        Ok((p, _)) => match value::whole_value(payload, p.data_type) {
+            Ok((_, _)) => Chosen {
                 of_payload: true,
                 start: 0,
                 len: payload.len(),
             },
-            ReadValue::Refused(_) => Chosen {
+            Err(_) => Chosen {
                 of_payload: false,
                 start: p.current.start,
                 len: p.current.len,

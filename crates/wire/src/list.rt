@@ -3,48 +3,31 @@ ghost use Rattle.std.specs.Prelude.{◌≡◌};
 ghost use Rattle.wire.specs.List.{nth_in, nth_value, value_slot, nth_at, says_nth, place_in, place_of, step_at, says_step, list_at, Nexts, Moves};
 ghost use Rattle.wire.specs.Property.{has_enable, says_form};
 
-use crate::property::{Form, PropLayout, ReadProperty, Slot};
-use crate::value::{ReadValue, Value};
-use crate::{Cursor, Span, past, property};
+use crate::property::{Form, PropLayout, Slot};
+use crate::value::Value;
+use crate::{Cursor, past, property};
 use layout::Refusal;
 
-// A value, its bytes, and the place after them.
-#[derive(Drop)]
-pub enum ReadNth {
-    Got(Value, Slot, Cursor),
-    Refused(Refusal),
-}
-
-fn value_slot(s: &[u8], code: u16, at: usize) -> ReadNth
+#[tactic(auto, unfolding(crate::specs::List::value_slot, layout::specs::Answer::after))]
+fn value_slot(s: &[u8], code: u16, at: usize) -> Result<(Value, Slot, Cursor), Refusal>
     ensures { says_nth result ≡ value_slot code s.now at }
 {
-    match (Cursor { at }).value(s, code) {
-        ReadValue::Got(v, next) => {
-            let end = next.at;
-            ReadNth::Got(
-                v,
-                Slot {
-                    start: at,
-                    len: end - at,
-                },
-                next,
-            )
-        }
-        ReadValue::Refused(f) => ReadNth::Refused(f),
-    }
+    let (v, next) = (Cursor { at }).value(s, code)?;
+    let len = next.at - at;
+    Ok((v, Slot { start: at, len }, next))
 }
 
 // The value behind n others.
-fn nth_value(s: &[u8], code: u16, start: usize, n: usize) -> ReadNth
+#[tactic(auto, unfolding(crate::specs::List::nth_value, crate::specs::Property::values_at, crate::specs::Property::passed_at, layout::specs::Answer::after, layout::specs::Answer::means))]
+fn nth_value(s: &[u8], code: u16, start: usize, n: usize) -> Result<(Value, Slot, Cursor), Refusal>
     ensures { says_nth result ≡ nth_value code n s.now start }
 {
-    match past::past_values(code, n, s, start) {
-        Span::Till(next) => value_slot(s, code, next.at),
-        Span::Refused(f) => ReadNth::Refused(f),
-    }
+    let next = past::past_values(code, n, s, start)?;
+    value_slot(s, code, next.at)
 }
 
-fn nth_of(f: Form, code: u16, s: &[u8], n: usize) -> ReadNth
+#[tactic(auto, unfolding(crate::specs::List::nth_in, layout::specs::Answer::bare))]
+fn nth_of(f: Form, code: u16, s: &[u8], n: usize) -> Result<(Value, Slot, Cursor), Refusal>
     ensures { says_nth result ≡ nth_in n code (says_form f) s.now }
 {
     match f {
@@ -52,25 +35,21 @@ fn nth_of(f: Form, code: u16, s: &[u8], n: usize) -> ReadNth
             if n < count as usize {
                 nth_value(s, code, p.start, n)
             } else {
-                ReadNth::Refused(layout::plain(layout::PLACE))
+                Err(layout::plain(layout::PLACE))
             }
         }
-        Form::Range(_, _, _) => ReadNth::Refused(layout::plain(layout::PLACE)),
-        Form::Absent => ReadNth::Refused(layout::plain(layout::PLACE)),
+        Form::Range(_, _, _) => Err(layout::plain(layout::PLACE)),
+        Form::Absent => Err(layout::plain(layout::PLACE)),
     }
 }
 
 // The n-th value, from 0, of the list of the description that the bytes begin with.
-pub fn nth(l: PropLayout, s: &[u8], n: usize) -> ReadNth
+#[tactic(auto, unfolding(crate::specs::List::nth_at, layout::specs::Answer::after))]
+pub fn nth(l: PropLayout, s: &[u8], n: usize) -> Result<(Value, Slot, Cursor), Refusal>
     ensures { says_nth result ≡ nth_at (has_enable l) n s.now }
 {
-    match property::property_info(l, s, Cursor { at: 0 }) {
-        ReadProperty::Got(p, _) => {
-            let form = p.form;
-            nth_of(form, p.data_type, s, n)
-        }
-        ReadProperty::Refused(f) => ReadNth::Refused(f),
-    }
+    let (p, _) = property::property_info(l, s, Cursor { at: 0 })?;
+    nth_of(p.form, p.data_type, s, n)
 }
 
 // Where a description's list stands: type, place, number left, and the refusal number, 0 for an accepted description.
@@ -82,11 +61,12 @@ pub struct Place {
     pub refusal: u8,
 }
 
-// The next value, with the place after it and the number left; or the end.
+// The next value, with the place after it and the number left.
 #[derive(Drop)]
-pub enum Step {
-    Next(Value, usize, u16),
-    End,
+pub struct Step {
+    pub value: Value,
+    pub at: usize,
+    pub left: u16,
 }
 
 fn place_in(f: Form, ty: u16) -> Place
@@ -118,11 +98,11 @@ pub fn place_of(l: PropLayout, s: &[u8]) -> Place
     ensures { result ≡ place_of (has_enable l) s.now }
 {
     match property::property_info(l, s, Cursor { at: 0 }) {
-        ReadProperty::Got(p, _) => {
+        Ok((p, _)) => {
             let form = p.form;
             place_in(form, p.data_type)
         }
-        ReadProperty::Refused(f) => Place {
+        Err(f) => Place {
             ty: 0,
             at: f.at,
             left: 0,
@@ -131,19 +111,20 @@ pub fn place_of(l: PropLayout, s: &[u8]) -> Place
     }
 }
 
-pub fn step_at(s: &[u8], ty: u16, at: usize, left: u16, refusal: u8) -> Step
+#[tactic(auto, unfolding(crate::specs::List::step_at), using(std::proofs::lemmas::Bool::Decides::nat_tests))]
+pub fn step_at(s: &[u8], ty: u16, at: usize, left: u16, refusal: u8) -> Option<Step>
     ensures { says_step result ≡ step_at s.now ty at left refusal }
 {
-    if refusal != 0 {
-        return Step::End;
+    if refusal != 0 || left == 0 {
+        return None;
     }
-    if left == 0 {
-        return Step::End;
-    }
-    match (Cursor { at }).value(s, ty) {
-        ReadValue::Got(v, next) => Step::Next(v, next.at, left - 1),
-        ReadValue::Refused(_) => Step::End,
-    }
+    let (value, next) = (Cursor { at }).value(s, ty).ok()?;
+    let left = left - 1;
+    Some(Step {
+        value,
+        at: next.at,
+        left,
+    })
 }
 
 // The list for the panel: it holds the description's bytes. Any numbers may stand in its fields.
@@ -169,7 +150,7 @@ pub fn list_of<'a>(l: PropLayout, src: &'a [u8]) -> Values<'a>
     }
 }
 
-pub fn next<'a>(l: Values<'a>) -> Step
+pub fn next<'a>(l: Values<'a>) -> Option<Step>
     ensures { Nexts l.entry result }
 {
     step_at(l.src, l.ty, l.at, l.left, l.refusal)

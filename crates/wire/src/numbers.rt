@@ -1,14 +1,15 @@
 // Integers of 8 to 64 bits that stand in a row. All are gone through, with no way out before the last and no test for the end of the bytes: so the
 // compiler takes many at once.
+ghost use Rattle.layout.specs.Answer.{says_count};
 ghost use Rattle.std.specs.Prelude.{◌≡◌, true, map, ◌+◌, ◌-◌, ◌*◌, ◌^◌, ◌≤◌, ◌<◌, length, take, drop};
 ghost use Rattle.layout.specs.Answer.{pick};
 ghost use Rattle.layout.specs.Bytes.{number, cells};
-ghost use Rattle.layout.specs.Written.{Put, Wrote, said_of, says_written};
+ghost use Rattle.layout.specs.Written.{Put, Wrote, said_of};
 ghost use Rattle.wire.specs.Layout.{integer_width, shape};
 ghost use Rattle.wire.specs.Numbers.{Plain, is_plain, is_in, has_number, extended, words_in, numbers_at};
 
-use crate::{Span, past};
-use layout::Written;
+use crate::past;
+use layout::Refusal;
 
 // ── a number by its bytes ──
 
@@ -18,6 +19,7 @@ fn byte(x: u8) -> u64
     x as u64
 }
 
+#[tactic(auto, using(crate::proofs::NumberWords::two_word))]
 fn two_at(s: &[u8], at: usize) -> u64
     requires { 2 ≤ length s.now - at }
     ensures { (result ≡ number (take 2 (drop at s.now))) × (result < 65536) }
@@ -25,6 +27,7 @@ fn two_at(s: &[u8], at: usize) -> u64
     byte(s[at]) + 256 * byte(s[at + 1])
 }
 
+#[tactic(auto, using(crate::proofs::NumberWords::four_word))]
 fn four_at(s: &[u8], at: usize) -> u64
     requires { 4 ≤ length s.now - at }
     ensures { (result ≡ number (take 4 (drop at s.now))) × (result < 4294967296) }
@@ -32,6 +35,7 @@ fn four_at(s: &[u8], at: usize) -> u64
     two_at(s, at) + 65536 * two_at(s, at + 2)
 }
 
+#[tactic(auto, using(crate::proofs::NumberWords::eight_word))]
 fn eight_at(s: &[u8], at: usize) -> u64
     requires { 8 ≤ length s.now - at }
     ensures { result ≡ number (take 8 (drop at s.now)) }
@@ -40,6 +44,7 @@ fn eight_at(s: &[u8], at: usize) -> u64
 }
 
 // The number of w bytes at a place.
+#[tactic(auto, using(crate::proofs::NumberWords::one_word, crate::proofs::NumberWords::eight))]
 fn word(s: &[u8], at: usize, w: usize) -> u64
     requires { Plain w × (w ≤ length s.now - at) }
     ensures { (result ≡ number (take w (drop at s.now))) × (result < 256 ^ w) }
@@ -58,28 +63,19 @@ fn word(s: &[u8], at: usize, w: usize) -> u64
 
 // ── one of them ──
 
-fn either(a: bool, b: bool) -> bool
-    ensures { result ≡ pick a true b }
-{
-    if a { true } else { b }
-}
-
 // Whether one of n numbers of w bytes from a place on is x.
 fn has_word(s: &[u8], at: usize, n: usize, w: usize, x: u64) -> bool
     requires { Plain w × (n * w ≤ length s.now - at) }
     ensures { result ≡ is_in x (cells w n (drop at s.now)) }
 {
     let mut found = false;
-    let mut o = at;
-    let mut left = n;
-    while 0 < left {
-        found = either(found, word(s, o, w) == x);
-        o += w;
-        left -= 1;
+    for i in 0..n {
+        found |= word(s, at + i * w, w) == x;
     }
     found
 }
 
+#[tactic(auto, using(std::proofs::lemmas::Bool::Decides::nat_tests))]
 fn is_plain(w: usize) -> bool
     ensures { result ≡ is_plain w }
 {
@@ -96,6 +92,7 @@ fn is_plain(w: usize) -> bool
 }
 
 // Each width by itself, so that it is a constant of its loop.
+#[tactic(auto, using(crate::proofs::NumberWords::eight, crate::specs::Numbers::one_byte, crate::specs::Numbers::two_bytes, crate::specs::Numbers::four_bytes, crate::specs::Numbers::eight_bytes))]
 fn holds(s: &[u8], at: usize, n: usize, w: usize, x: u64) -> bool
     requires { Plain w × (n * w ≤ length s.now - at) }
     ensures { result ≡ is_in x (cells w n (drop at s.now)) }
@@ -113,6 +110,7 @@ fn holds(s: &[u8], at: usize, n: usize, w: usize, x: u64) -> bool
 }
 
 // Whether x is one of n numbers of w bytes that stand from a place on, where w is 1, 2, 4 or 8.
+#[tactic(auto, unfolding(crate::specs::Numbers::has_number), using(crate::proofs::NumberWords::plain_width, crate::proofs::laws::Kinds::plain_few, crate::proofs::laws::NumberSearch::times_small, std::proofs::lemmas::Bool::Decides::nat_tests))]
 pub fn has_number(s: &[u8], at: usize, n: u16, w: usize, x: u64) -> bool
     ensures { result ≡ has_number w n s.now at x }
 {
@@ -128,6 +126,7 @@ pub fn has_number(s: &[u8], at: usize, n: u16, w: usize, x: u64) -> bool
 
 // ── all of them ──
 
+#[tactic(auto, using(std::proofs::lemmas::Bool::Decides::nat_tests))]
 fn extend(v: u64, half: u64, top: u64) -> u64
     requires { v + top < 2 ^ 64 }
     ensures { result ≡ extended half top v }
@@ -140,14 +139,10 @@ fn put_words(s: &[u8], at: usize, n: usize, w: usize, half: u64, top: u64, out: 
     requires { Plain w × (n * w ≤ length s.now - at) × (n ≤ length out.old) × (256 ^ w + top ≤ 2 ^ 64) }
     ensures { Put out.old 0 (map (extended half top) (cells w n (drop at s.now))) out.new result }
 {
-    let mut o = at;
-    let mut i: usize = 0;
-    while i < n {
-        out[i] = extend(word(&*s, o, w), half, top);
-        o += w;
-        i += 1;
+    for i in 0..n {
+        out[i] = extend(word(&*s, at + i * w, w), half, top);
     }
-    i
+    n
 }
 
 // Each type by itself, so that its width is a constant of its loop.
@@ -168,22 +163,24 @@ fn put_numbers(s: &[u8], at: usize, code: u16, n: usize, out: &mut [u64]) -> usi
 }
 
 // The n integers of a type of 8 to 64 bits from a place on, each as its word of 64 bits: 12 for any other type, then 1, then 9.
-pub fn list_numbers(s: &[u8], at: usize, code: u16, n: usize, out: &mut [u64]) -> Written
-    ensures { Wrote (said_of (numbers_at code n s.now at)) out.old (says_written result) out.new }
+pub fn list_numbers(
+    s: &[u8],
+    at: usize,
+    code: u16,
+    n: usize,
+    out: &mut [u64],
+) -> Result<usize, Refusal>
+    ensures { Wrote (said_of (numbers_at code n s.now at)) out.old (says_count result) out.new }
 {
     if code == 0 {
-        return Written::Refused(layout::plain(layout::PLACE));
+        return Err(layout::plain(layout::PLACE));
     }
     if 8 < code {
-        return Written::Refused(layout::plain(layout::PLACE));
+        return Err(layout::plain(layout::PLACE));
     }
-    match past::past_values(code, n, s, at) {
-        Span::Till(_) => {
-            if out.len() < n {
-                return Written::Refused(layout::plain(layout::ROOM));
-            }
-            Written::Done(put_numbers(s, at, code, n, out))
-        }
-        Span::Refused(f) => Written::Refused(f),
+    past::past_values(code, n, s, at)?;
+    if out.len() < n {
+        return Err(layout::plain(layout::ROOM));
     }
+    Ok(put_numbers(s, at, code, n, out))
 }

@@ -5,29 +5,23 @@ ghost use Rattle.wire.specs.Property.{passed_at};
 ghost use Rattle.wire.specs.Says.{says_span};
 
 use crate::kind::Shape;
-use crate::value::ReadValue;
-use crate::{Cursor, Span, field, kind, value};
+use crate::{Cursor, field, kind, value};
+use layout::Refusal;
 
 // n values of one type, a value at a time.
-fn past_each(code: u16, n: usize, src: &[u8], first: usize) -> Span
+fn past_each(code: u16, n: usize, src: &[u8], first: usize) -> Result<Cursor, Refusal>
     ensures { says_span result ≡ passed_at code n src.now first }
 {
     let mut at = first;
-    let mut left = n;
-    while 0 < left {
-        match value::shape_value(&*src, Cursor { at }, kind::shape_of(code)) {
-            ReadValue::Refused(f) => return Span::Refused(f),
-            ReadValue::Got(_, next) => {
-                at = next.at;
-            }
-        }
-        left -= 1;
+    for _ in 0..n {
+        let (_, next) = value::shape_value(&*src, Cursor { at }, kind::shape_of(code))?;
+        at = next.at;
     }
-    Span::Till(Cursor { at })
+    Ok(Cursor { at })
 }
 
 // n numbers of w bytes: one test for all. Cut, they are told of the first that is not whole.
-pub(crate) fn past_numbers(w: usize, n: usize, src: &[u8], at: usize) -> Span
+pub(crate) fn past_numbers(w: usize, n: usize, src: &[u8], at: usize) -> Result<Cursor, Refusal>
     requires { (0 < w) × (w ≤ 16) × (n ≤ 4294967295) }
     ensures { says_span result ≡ span_at (at + (length src.now - at) / w * w) (n * w) src.now at }
 {
@@ -36,7 +30,7 @@ pub(crate) fn past_numbers(w: usize, n: usize, src: &[u8], at: usize) -> Span
 }
 
 // The place after n values of one type: numbers all at once.
-pub(crate) fn past_values(code: u16, n: usize, src: &[u8], first: usize) -> Span
+pub(crate) fn past_values(code: u16, n: usize, src: &[u8], first: usize) -> Result<Cursor, Refusal>
     ensures { says_span result ≡ passed_at code n src.now first }
 {
     // No list has more; up to here the number of their bytes fits.
@@ -47,6 +41,6 @@ pub(crate) fn past_values(code: u16, n: usize, src: &[u8], first: usize) -> Span
         Shape::One(k) => past_numbers(kind::width_of(k), n, src, first),
         Shape::Many(_) => past_each(code, n, src, first),
         Shape::Text => past_each(code, n, src, first),
-        Shape::Undef => Span::Till(Cursor { at: first }),
+        Shape::Undef => Ok(Cursor { at: first }),
     }
 }

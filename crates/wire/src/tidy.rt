@@ -1,24 +1,24 @@
 // The tidy spelling of a property's description, from the places that its reader found.
+ghost use Rattle.layout.specs.Answer.{says_count};
 ghost use Rattle.std.specs.Prelude.{◌≡◌, true, [], ◌∷◌, ◌+◌, ◌-◌, ◌≤◌, length};
-ghost use Rattle.layout.specs.Written.{Wrote, Put, roomed, spelling, took, tidied, says_written};
+ghost use Rattle.layout.specs.Written.{Wrote, Put, roomed, spelling, took, tidied};
 ghost use Rattle.wire.specs.Codecs.{enable_write, property};
 ghost use Rattle.wire.specs.Property.{has_enable, says_enable, says_form, info_from};
 ghost use Rattle.wire.specs.Tidy.{row_word, types};
 ghost use Rattle.wire.specs.TidyProperty.{header_word, range_word, list_word, form_word, property_word, Well3, WellForm, Well};
 
 use crate::kind::STRING;
-use crate::property::{Enable, Form, PropInfo, PropLayout, ReadProperty};
-use crate::write::Measured;
+use crate::property::{Form, PropInfo, PropLayout};
 use crate::{Cursor, property, row};
-use layout::Written;
+use layout::Refusal;
 
 // How long the tidy words of n values of a type are.
 fn values_len(code: u16, n: usize, src: &[u8], at: usize) -> usize
     ensures { (result ≡ length (spelling (row_word (types (code ∷ []) n) src.now at))) × (result ≤ length src.now - at) }
 {
     match row::measure_values(code, n, src, at) {
-        Measured::Whole { tidy, next: _ } => tidy,
-        Measured::Refused(_) => 0,
+        Ok((tidy, _)) => tidy,
+        Err(_) => 0,
     }
 }
 
@@ -35,6 +35,7 @@ fn put_values(code: u16, n: usize, src: &[u8], at: usize, out: &mut [u8], o: usi
     row::put_row(&codes, n, src, at, out, o)
 }
 
+#[tactic(auto, unfolding(crate::specs::TidyProperty::form_word, layout::specs::Bytes::bytes), using(crate::proofs::TidyWords::range_size, crate::proofs::TidyWords::list_size))]
 fn form_len(f: Form, code: u16, src: &[u8]) -> usize
     requires { length (form_word code src.now (says_form f)) ≤ length src.now }
     ensures { result ≡ length (form_word code src.now (says_form f)) }
@@ -72,6 +73,7 @@ fn put_list(n: usize, at: usize, code: u16, src: &[u8], out: &mut [u8], o: usize
     put_values(code, n, src, at, out, j)
 }
 
+#[tactic(auto, unfolding(crate::specs::TidyProperty::form_word))]
 fn put_form(f: Form, code: u16, src: &[u8], out: &mut [u8], o: usize) -> usize
     requires well_form { WellForm code src.now (says_form f) }
     requires f_in_bounds { o + length (form_word code src.now (says_form f)) ≤ length out.old }
@@ -92,27 +94,27 @@ fn property_len(p: PropInfo, src: &[u8]) -> usize
     let code = p.data_type;
     let default = values_len(code, 1, src, p.factory_default.start);
     let current = values_len(code, 1, src, p.current.start);
-    let enable = p.is_enable;
-    let form = p.form;
-    5 + enable_len(enable) + default + current + form_len(form, code, src)
+    5 + enable_len(p.is_enable) + default + current + form_len(p.form, code, src)
 }
 
 // How many bytes the `IsEnable` byte is: one, or none.
-fn enable_len(e: Enable) -> usize
+#[tactic(auto, unfolding(layout::specs::Bytes::bytes))]
+fn enable_len(e: Option<u8>) -> usize
     ensures { result ≡ length (enable_write (says_enable e)) }
 {
     match e {
-        Enable::There(_) => 1,
-        Enable::Absent => 0,
+        Some(_) => 1,
+        None => 0,
     }
 }
 
-fn put_enable(e: Enable, out: &mut [u8], o: usize) -> usize
+#[tactic(auto, unfolding(layout::specs::Written::roomed, layout::specs::Written::put), using(layout::proofs::laws::Writing::nothing))]
+fn put_enable(e: Option<u8>, out: &mut [u8], o: usize) -> usize
     ensures { Put out.old o (roomed out.old o (enable_write (says_enable e))) out.new result }
 {
     match e {
-        Enable::There(b) => layout::store(out, o, 1, b as u64),
-        Enable::Absent => o,
+        Some(b) => layout::store(out, o, 1, b as u64),
+        None => o,
     }
 }
 
@@ -142,16 +144,12 @@ fn put_property(p: PropInfo, src: &[u8], out: &mut [u8]) -> usize
 }
 
 // The tidy word of the description that the bytes begin with.
-pub fn tidy_property(l: PropLayout, src: &[u8], out: &mut [u8]) -> Written
-    ensures { Wrote (tidied (property (has_enable l)) src.now) out.old (says_written result) out.new }
+pub fn tidy_property(l: PropLayout, src: &[u8], out: &mut [u8]) -> Result<usize, Refusal>
+    ensures { Wrote (tidied (property (has_enable l)) src.now) out.old (says_count result) out.new }
 {
-    match property::property_info(l, src, Cursor { at: 0 }) {
-        ReadProperty::Refused(f) => Written::Refused(f),
-        ReadProperty::Got(p, _) => {
-            if out.len() < property_len(p, src) {
-                return Written::Refused(layout::plain(layout::ROOM));
-            }
-            Written::Done(put_property(p, src, out))
-        }
+    let (p, _) = property::property_info(l, src, Cursor { at: 0 })?;
+    if out.len() < property_len(p, src) {
+        return Err(layout::plain(layout::ROOM));
     }
+    Ok(put_property(p, src, out))
 }

@@ -1,13 +1,12 @@
 // A value by its type code, and what is asked of one.
+ghost use Rattle.wire.specs.Read.{says_read};
 ghost use Rattle.std.specs.Prelude.{◌≡◌, ◌+◌, ◌≤◌, ◌^◌};
 ghost use Rattle.wire.specs.Layout.{one, sint, uint, wide};
 ghost use Rattle.wire.specs.Places.{shape_at, value_at, unit_at, item_of, item_at, filled_at, filling_all};
-ghost use Rattle.wire.specs.Says.{says_kind, says_shape, says_value, says_span, says_u16};
+ghost use Rattle.wire.specs.Says.{says_kind, says_shape, says_value, says_span};
 
 use crate::kind::{Kind, Shape};
-use crate::{
-    Cursor, Number, Pair, Part, ReadI64, ReadPair, ReadPart, ReadU16, Span, array, field, kind,
-};
+use crate::{Cursor, Pair, Part, Read, array, field, kind};
 use layout::Refusal;
 
 #[derive(Drop)]
@@ -20,42 +19,34 @@ pub enum Value {
     Undef,
 }
 
-#[derive(Drop)]
-pub enum ReadValue {
-    Got(Value, Cursor),
-    Refused(Refusal),
-}
-
-fn int_value(s: &[u8], at: usize, w: usize, half: u64) -> ReadValue
+#[tactic(auto, unfolding(crate::specs::Places::shape_at, layout::specs::Answer::means))]
+fn int_value(s: &[u8], at: usize, w: usize, half: u64) -> Read<Value>
     requires { (w ≤ 8) × (half ≤ 2 ^ 63) × (half + half ≡ 256 ^ w) }
     ensures { says_value result ≡ shape_at (one (sint w)) s.now at }
 {
-    match field::int_at(s, at, w, half) {
-        ReadI64::Got(v, next) => ReadValue::Got(Value::Int(v), next),
-        ReadI64::Refused(f) => ReadValue::Refused(f),
-    }
+    let (z, next) = field::int_at(s, at, w, half)?;
+    Ok((Value::Int(z), next))
 }
 
-fn nat_value(s: &[u8], at: usize, w: usize) -> ReadValue
+#[tactic(auto, unfolding(crate::specs::Places::shape_at, layout::specs::Answer::means))]
+fn nat_value(s: &[u8], at: usize, w: usize) -> Read<Value>
     requires { w ≤ 8 }
     ensures { says_value result ≡ shape_at (one (uint w)) s.now at }
 {
-    match field::num_at(s, at, w) {
-        Number::Got(v, next) => ReadValue::Got(Value::Nat(v), next),
-        Number::Refused(f) => ReadValue::Refused(f),
-    }
+    let (n, next) = field::num_at(s, at, w)?;
+    Ok((Value::Nat(n), next))
 }
 
-fn wide_value(s: &[u8], at: usize) -> ReadValue
+#[tactic(auto, unfolding(crate::specs::Places::shape_at, layout::specs::Answer::means))]
+fn wide_value(s: &[u8], at: usize) -> Read<Value>
     ensures { says_value result ≡ shape_at (one wide) s.now at }
 {
-    match field::wide_at(s, at) {
-        ReadPair::Got(p, next) => ReadValue::Got(Value::Wide(p), next),
-        ReadPair::Refused(f) => ReadValue::Refused(f),
-    }
+    let (p, next) = field::wide_at(s, at)?;
+    Ok((Value::Wide(p), next))
 }
 
-fn number_value(s: &[u8], at: usize, k: Kind) -> ReadValue
+#[tactic(auto, unfolding(crate::specs::Places::shape_at, layout::specs::Answer::means))]
+fn number_value(s: &[u8], at: usize, k: Kind) -> Read<Value>
     ensures { says_value result ≡ shape_at (one (says_kind k)) s.now at }
 {
     match k {
@@ -73,27 +64,29 @@ fn number_value(s: &[u8], at: usize, k: Kind) -> ReadValue
 }
 
 // A value by the shape of its type.
-pub(crate) fn shape_value(s: &[u8], c: Cursor, x: Shape) -> ReadValue
+#[tactic(auto, unfolding(crate::specs::Places::shape_at, layout::specs::Answer::means))]
+pub(crate) fn shape_value(s: &[u8], c: Cursor, x: Shape) -> Read<Value>
     ensures { says_value result ≡ shape_at (says_shape x) s.now c.at }
 {
     let at = c.at;
     match x {
         Shape::One(k) => number_value(&*s, at, k),
-        Shape::Many(k) => match array::array_at(&*s, at, kind::width_of(k)) {
-            ReadPart::Got(p, next) => ReadValue::Got(Value::Items(p), next),
-            ReadPart::Refused(f) => ReadValue::Refused(f),
-        },
-        Shape::Text => match c.text(&*s) {
-            ReadPart::Got(p, next) => ReadValue::Got(Value::Text(p), next),
-            ReadPart::Refused(f) => ReadValue::Refused(f),
-        },
-        Shape::Undef => ReadValue::Got(Value::Undef, c),
+        Shape::Many(k) => {
+            let (p, next) = array::array_at(&*s, at, kind::width_of(k))?;
+            Ok((Value::Items(p), next))
+        }
+        Shape::Text => {
+            let (p, next) = c.text(&*s)?;
+            Ok((Value::Text(p), next))
+        }
+        Shape::Undef => Ok((Value::Undef, c)),
     }
 }
 
 impl Cursor {
     // Every code that is not known takes no bytes. Numbers, which most values are, go by themselves: so the compiler puts this where it is used.
-    pub fn value(self, s: &[u8], code: u16) -> ReadValue
+    #[tactic(auto, unfolding(crate::specs::Places::shape_at, layout::specs::Answer::means))]
+    pub fn value(self, s: &[u8], code: u16) -> Read<Value>
         ensures { says_value result ≡ value_at code s.now self.at }
     {
         let at = self.at;
@@ -105,75 +98,63 @@ impl Cursor {
     }
 
     // 3 where bytes follow.
-    pub fn end(self, s: &[u8]) -> Span
+    #[tactic(auto, unfolding(crate::specs::Places::filled_at))]
+    pub fn end(self, s: &[u8]) -> Result<Cursor, Refusal>
         ensures { says_span result ≡ filled_at s.now self.at }
     {
         let at = self.at;
         if at < s.len() {
-            return Span::Refused(layout::plain(layout::TRAIL));
+            return Err(layout::plain(layout::TRAIL));
         }
-        Span::Till(self)
+        Ok(self)
     }
 
     // The n-th unit, from 0, of the string that stands here.
-    pub fn unit(self, s: &[u8], n: usize) -> ReadU16
-        ensures { says_u16 result ≡ unit_at n s.now self.at }
+    #[tactic(auto, unfolding(crate::specs::Places::unit_at, layout::specs::Answer::after))]
+    pub fn unit(self, s: &[u8], n: usize) -> Read<u16>
+        ensures { says_read result ≡ unit_at n s.now self.at }
     {
-        match self.text(s) {
-            ReadPart::Got(p, _) => {
-                let start = p.start;
-                let count = p.count;
-                if n < count {
-                    (Cursor { at: start + n * 2 }).u16(s)
-                } else {
-                    ReadU16::Refused(layout::plain(layout::PLACE))
-                }
-            }
-            ReadPart::Refused(f) => ReadU16::Refused(f),
+        let (units, _) = self.text(s)?;
+        if units.count <= n {
+            return Err(layout::plain(layout::PLACE));
         }
+        (Cursor {
+            at: units.start + n * 2,
+        })
+        .u16(s)
     }
 
     // The n-th item, from 0, of the array of this type code that stands here.
-    pub fn item(self, s: &[u8], code: u16, n: usize) -> ReadValue
+    #[tactic(auto, unfolding(crate::specs::Places::item_in))]
+    pub fn item(self, s: &[u8], code: u16, n: usize) -> Read<Value>
         ensures { says_value result ≡ item_at code n s.now self.at }
     {
         let at = self.at;
         match kind::shape_of(code) {
             Shape::Many(k) => nth_item(s, at, k, n),
-            Shape::One(_) => ReadValue::Refused(layout::plain(layout::PLACE)),
-            Shape::Text => ReadValue::Refused(layout::plain(layout::PLACE)),
-            Shape::Undef => ReadValue::Refused(layout::plain(layout::PLACE)),
+            _ => Err(layout::plain(layout::PLACE)),
         }
     }
 }
 
-fn nth_item(s: &[u8], at: usize, k: Kind, n: usize) -> ReadValue
+#[tactic(auto, unfolding(crate::specs::Places::item_of, layout::specs::Answer::after))]
+fn nth_item(s: &[u8], at: usize, k: Kind, n: usize) -> Read<Value>
     ensures { says_value result ≡ item_of (says_kind k) n s.now at }
 {
     let w = kind::width_of(k);
-    match array::array_at(s, at, w) {
-        ReadPart::Got(p, _) => {
-            let start = p.start;
-            let count = p.count;
-            if n < count {
-                number_value(s, start + n * w, k)
-            } else {
-                ReadValue::Refused(layout::plain(layout::PLACE))
-            }
-        }
-        ReadPart::Refused(f) => ReadValue::Refused(f),
+    let (items, _) = array::array_at(s, at, w)?;
+    if items.count <= n {
+        return Err(layout::plain(layout::PLACE));
     }
+    number_value(s, items.start + n * w, k)
 }
 
 // All of the bytes as one value of the type: 3 where bytes follow it.
-pub fn whole_value(s: &[u8], code: u16) -> ReadValue
+#[tactic(auto, unfolding(crate::specs::Places::filling_all, layout::specs::Answer::after))]
+pub fn whole_value(s: &[u8], code: u16) -> Read<Value>
     ensures { says_value result ≡ filling_all (value_at code) s.now }
 {
-    match (Cursor { at: 0 }).value(s, code) {
-        ReadValue::Got(v, next) => match next.end(s) {
-            Span::Till(end) => ReadValue::Got(v, end),
-            Span::Refused(f) => ReadValue::Refused(f),
-        },
-        ReadValue::Refused(f) => ReadValue::Refused(f),
-    }
+    let (v, next) = (Cursor { at: 0 }).value(s, code)?;
+    let end = next.end(s)?;
+    Ok((v, end))
 }

@@ -2,5 +2,5 @@
 use Rattle.std.proofs.Common.{◌-◌}
 use Rattle.ask.proofs.answer_lines.Given as goal
 
-abbrev pub decreases-loop-seen : goal.decreases-loop-seen
-decreases-loop-seen l = l.end - l.seen
+abbrev pub decreases-loop-stop : goal.decreases-loop-stop
+decreases-loop-stop l = l.end - l.seen

@@ -1,5 +1,6 @@
 -- Laws of a turn: which of its cases holds.
 -- Assumes nothing.
+use Rattle.std.specs.Prelude.{Ok}
 use Rattle.std.proofs.Common.{◌≡◌, ℕ, ◌+◌, ◌-◌, ◌<◌, ◌≤◌, Bool, true, false, List, length, drop, sym, refl, ap, ◌∙◌, arith, length-append, le-ltb, lt-ltb}
 use Rattle.layout.specs.Answer.{got}
 use Rattle.layout.specs.Written.{Put}
@@ -11,7 +12,6 @@ use Rattle.turns.proofs.laws.Running.{rest_most, rest_less, read_within}
 use Rattle.turns.proofs.laws.Fronting.{put_fronted}
 use Rattle.recording.specs.Row.{whole_of, waits}
 use Rattle.recording.specs.Copied.{says_copied, front_text, front_left}
-use Rattle.recording.specs.declared.copy.Copied.TheVariants as copied
 use Rattle.recording.specs.declared.copy.Front.{Front}
 use Rattle.recording.specs.declared.copy.Left.{Left}
 use Rattle.recording.proofs.laws.Fronts.{whole_most, Fronts}
@@ -33,7 +33,7 @@ module _ (last : Bool) (t : Tally) (h : List ℕ) where
 
 -- ── a turn, by what was copied ──
 
-module _ (window : List ℕ) {out out' : List ℕ} (h : Hold) (t : Tally) {r : Front} {n : ℕ} {left : Left} (f : Fronts (rest window h.from h.held) out r out') (d : r.copied ≡ copied.Done n left) where
+module _ (window : List ℕ) {out out' : List ℕ} (h : Hold) (t : Tally) {r : Front} {n : ℕ} {left : Left} (f : Fronts (rest window h.from h.held) out r out') (d : r.copied ≡ Ok (n, left)) where
   abbrev bs : List ℕ
   bs = rest window h.from h.held
 

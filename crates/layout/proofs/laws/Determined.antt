@@ -1,13 +1,14 @@
 -- Two answers that a promise allows are the same: one shape for readers and for writers.
 -- Assumes nothing.
+use Rattle.layout.specs.Answer.{says_count}
+use Rattle.std.specs.Prelude.{Ok, Err}
+use Rattle.std.specs.declared.result.Result.{Result}
+use Rattle.layout.specs.declared.Refusal.{Refusal}
 use mathlib.Core.Path.{◌≡◌, ap, sym, ◌∙◌}
 use mathlib.Core.List.{List}
 use Prim.Native.Nat.{ℕ}
-use Rattle.layout.specs.Answer.{Answer, says_checked}
-use Rattle.layout.specs.Written.{Said, Wrote, Put, says_written}
-use Rattle.layout.specs.declared.Checked.TheVariants as checked
-use Rattle.layout.specs.declared.Written.{Written}
-use Rattle.layout.specs.declared.Written.TheVariants as written
+use Rattle.layout.specs.Answer.{Answer}
+use Rattle.layout.specs.Written.{Said, Wrote, Put}
 use Rattle.layout.proofs.laws.Numbers.{zero_one}
 
 -- what an answer says determines it
@@ -30,18 +31,18 @@ pub one_put : {old new new' bs : List ℕ} {at next next' : ℕ} → Put old at 
 one_put p q = (p.bytes ∙ sym q.bytes, p.place ∙ sym q.place)
 
 -- every writer's answer
-pub tells_written : Tells says_written
-tells_written (written.Done n) (written.Done m) e = cc
-tells_written (written.Done n) (written.Refused u) e = zero_one (cc)
-tells_written (written.Refused t) (written.Done m) e = zero_one (cc)
-tells_written (written.Refused t) (written.Refused u) e = cc
+pub tells_written : Tells says_count
+tells_written (Ok n) (Ok m) e = cc
+tells_written (Ok n) (Err u) e = zero_one (cc)
+tells_written (Err t) (Ok m) e = zero_one (cc)
+tells_written (Err t) (Err u) e = cc
 
 -- and how many there are
-pub tells_checked : Tells says_checked
-tells_checked (checked.Whole n) (checked.Whole m) e = cc
-tells_checked (checked.Whole n) (checked.Refused t) e = zero_one (cc)
-tells_checked (checked.Refused t) (checked.Whole n) e = zero_one (cc)
-tells_checked (checked.Refused t) (checked.Refused u) e = cc
+pub tells_checked : Tells says_count
+tells_checked (Ok n) (Ok m) e = cc
+tells_checked (Ok n) (Err t) e = zero_one (cc)
+tells_checked (Err t) (Ok n) e = zero_one (cc)
+tells_checked (Err t) (Err u) e = cc
 
-pub one_written : (s : Said) (old new new' : List ℕ) (x y : Written) → Wrote s old (says_written x) new → Wrote s old (says_written y) new' → (x ≡ y) × (new ≡ new')
+pub one_written : (s : Said) (old new new' : List ℕ) (x y : (Result ℕ Refusal)) → Wrote s old (says_count x) new → Wrote s old (says_count y) new' → (x ≡ y) × (new ≡ new')
 one_written = writes_one tells_written

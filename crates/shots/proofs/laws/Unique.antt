@@ -1,5 +1,7 @@
 -- Two answers that a promise allows are equal, all lent lists included. (The enum that `add` answers is determined by what it says; the other two answer tree's.)
 -- Assumes nothing.
+use Rattle.layout.specs.Answer.{says_count}
+use Rattle.std.specs.Prelude.{Ok, Err}
 use mathlib.Core.Path.{◌≡◌, refl, sym, ap, subst, ◌∙◌}
 use mathlib.Core.List.{List}
 use Prim.Native.Nat.{ℕ, suc}
@@ -17,18 +19,17 @@ use Rattle.tree.proofs.laws.Links.{one_pair}
 use Rattle.tree.proofs.laws.Sound.{Sound, accepted}
 use Rattle.shots.specs.Deleted.{deleted, delete_said}
 use Rattle.shots.specs.Collected.{ahead, places, collected, leaves, Leaves, Lists, Collected}
-use Rattle.shots.specs.Added.{base, new_places, added_to, add_at, says_added, Adds}
+use Rattle.shots.specs.Added.{base, new_places, added_to, add_at, Adds}
 use Rattle.shots.specs.Linked.{DeletedLinked, CollectedLinked, AddsLinked}
-use Rattle.shots.specs.declared.Added.TheVariants as added
 use Rattle.shots.proofs.Adding.{added_kept, added_left}
 use Rattle.shots.proofs.Collecting.{collected_kept, collected_left}
 use Rattle.shots.proofs.Deleting.{deleted_kept, deleted_left}
 
-pub tells_added : Tells says_added
-tells_added (added.At n) (added.At m) e = cc
-tells_added (added.At n) (added.Refused t) e = zero_one (cc)
-tells_added (added.Refused t) (added.At n) e = zero_one (cc)
-tells_added (added.Refused t) (added.Refused u) e = cc
+pub tells_added : Tells says_count
+tells_added (Ok n) (Ok m) e = cc
+tells_added (Ok n) (Err t) e = zero_one (cc)
+tells_added (Err t) (Ok n) e = zero_one (cc)
+tells_added (Err t) (Err u) e = cc
 
 pub one_deleted : (t : Table) (place : ℕ) {a b : Answer (Unit {0})} {ms ms' : List ℕ} → Wrote (delete_said t place) t.marks a ms → Wrote (delete_said t place) t.marks b ms' → (a ≡ b) × (ms ≡ ms')
 one_deleted t place p q = (p.answers ∙ sym q.answers, p.leaves ∙ sym q.leaves)

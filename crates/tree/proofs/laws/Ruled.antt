@@ -64,7 +64,7 @@ module _ (P : ℕ → ℕ → Bool) (F : ℕ → List ℕ → Bool) (none : (i :
       more i p ps ∙ (and-eq-true_iff (P i p) (F (suc i) ps)).1
       (rw add-zero at (f 0 (omega arith)), all_pass ps (suc i) (λ k h. rw (suc-add, ← add-suc) (f (suc k) (omega arith))))
 
-kept_all : (ps : List ℕ) → ((k : ℕ) → k < length ps → kept k (get_or ps k 0) ≡ true) → kept_from 0 ps ≡ true
+pub kept_all : (ps : List ℕ) → ((k : ℕ) → k < length ps → kept k (get_or ps k 0) ≡ true) → kept_from 0 ps ≡ true
 unfolding kept_from
 kept_all ps f = all_pass kept kept_from (λ i. refl) (λ i p ps. refl) ps 0 (λ k h. rw zero-add (f k h))
 

@@ -1,20 +1,22 @@
 -- Which refusals of a table have a place: a name's 1 and 2 and no other, and the place lies in that name.
 -- The names are read one by one, each from its own first byte.
 -- Assumes nothing.
+use Rattle.layout.specs.Answer.{says_count}
+use Rattle.std.specs.declared.result.Result.{Result}
+use Rattle.layout.specs.declared.Refusal.{Refusal}
 use mathlib.Core.Path.{◌≡◌}
 use mathlib.Core.List.{List}
 use Prim.Native.Nat.{ℕ, zero, suc}
 use native.Mathlib.Omega.{arith}
 use lib.Dec.{eqb}
 use lib.ListN.{length}
-use Rattle.layout.specs.Answer.{Answer, says_checked}
+use Rattle.layout.specs.Answer.{Answer}
 use Rattle.layout.specs.Refusals.{TRAIL, TABLE}
 use Rattle.layout.specs.Told.{PlacedExactly, Inside}
 use Rattle.layout.proofs.laws.Told.{Telling, read, plainly, telling_same, Closed, Everywhere, everywhere, telling_pick, telling_after, telling_exactly, told_from_0}
 use Rattle.wire.proofs.laws.Told.{text_telling}
 use Rattle.tree.specs.Table.{Table, stops, table_ok, name_bytes, name_at, names_from, table_at}
 use Rattle.tree.specs.Links.{pair_ok, links_ok, link_at, Linked, kept_at}
-use Rattle.layout.specs.declared.Checked.{Checked}
 
 pub name_telling : {P : ℕ → Type 0} (s : List ℕ) → Closed P s → P 0 → Telling P (name_at s)
 unfolding name_at
@@ -36,16 +38,16 @@ unfolding table_at
 table_telling t = telling_pick (table_ok t) (λ _. names_telling 0 (length (stops t)) (stops t) t.names) λ _. plainly TABLE (omega arith)
 
 -- of a table, and so of every question that asks for one: its walk, a path, all paths
-pub table_told : (t : Table) (r : Checked) → says_checked r ≡ table_at t → PlacedExactly (says_checked r)
+pub table_told : (t : Table) (r : (Result ℕ Refusal)) → says_count r ≡ table_at t → PlacedExactly (says_count r)
 table_told t r promised = telling_exactly (telling_same promised (table_telling t))
 
 -- of a table that keeps its links, and of links that are made
-pub kept_told : (t : Table) (fs ns : List ℕ) (r : Checked) → says_checked r ≡ kept_at t fs ns → PlacedExactly (says_checked r)
+pub kept_told : (t : Table) (fs ns : List ℕ) (r : (Result ℕ Refusal)) → says_count r ≡ kept_at t fs ns → PlacedExactly (says_count r)
 unfolding kept_at
 kept_told t fs ns r promised =
     telling_exactly (telling_same promised (telling_pick (links_ok t fs ns) (λ _. table_telling t) λ _. plainly TABLE (omega arith)))
 
-pub link_told : (t : Table) {fs ns f m : List ℕ} (r : Checked) → Linked t fs ns (says_checked r) f m → PlacedExactly (says_checked r)
+pub link_told : (t : Table) {fs ns f m : List ℕ} (r : (Result ℕ Refusal)) → Linked t fs ns (says_count r) f m → PlacedExactly (says_count r)
 unfolding link_at
 link_told t {fs} {ns} r promised =
     telling_exactly (telling_same promised.answers (telling_pick (pair_ok fs ns) (λ _. table_telling t) λ _. plainly TABLE (omega arith)))

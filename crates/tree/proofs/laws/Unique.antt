@@ -2,13 +2,16 @@
 -- Of an accepted table both hold its walk, or its folder view, of which there is one each; the tables that are accepted are not those that are refused. (`path` has layout's
 -- one_written.)
 -- Assumes nothing.
+use Rattle.layout.specs.Answer.{says_count}
+use Rattle.std.specs.declared.result.Result.{Result}
+use Rattle.layout.specs.declared.Refusal.{Refusal}
 use mathlib.Core.Path.{◌≡◌, refl, sym, ap, ◌∙◌}
 use mathlib.Core.Bool.{Bool}
 use mathlib.Core.List.{List, ◌++◌}
 use Prim.Native.Nat.{ℕ}
 use lib.ListN.{length, drop}
-use Rattle.layout.specs.Answer.{Told, Answer, got, refused, says_checked}
-use Rattle.layout.specs.Written.{Said, says, no, Wrote, says_written, left_of}
+use Rattle.layout.specs.Answer.{Told, Answer, got, refused}
+use Rattle.layout.specs.Written.{Said, says, no, Wrote, left_of}
 use Rattle.layout.proofs.laws.Determined.{tells_written, tells_checked, one_written}
 use Rattle.layout.proofs.laws.Numbers.{zero_one}
 use Rattle.tree.specs.Table.{Table, rows, flags, live, table_at}
@@ -17,9 +20,7 @@ use Rattle.tree.specs.Path.{said_if, paths_said, ends_said, Walked, AllPaths}
 use Rattle.tree.specs.View.{Folders, Viewed, ViewPaths}
 use Rattle.tree.specs.Links.{link_at, Linked, Keeping}
 use Rattle.tree.specs.Says.{Walks, OrderSays, order, no_order}
-use Rattle.layout.specs.declared.Checked.{Checked}
 use Rattle.tree.specs.declared.Order.{Order}
-use Rattle.layout.specs.declared.Written.{Written}
 use Rattle.tree.proofs.laws.Kept.{link_got, one_keeping, relinked_got, relinked_refused}
 use Rattle.tree.proofs.laws.Links.{one_pair}
 use Rattle.tree.proofs.laws.Sound.{accepted}
@@ -79,32 +80,32 @@ module _ (t : Table) {l m : List ℕ} where
   views_one : {has : ℕ → Bool} → ((n : ℕ) → table_at t ≡ got tt n → Folders (rows t) has l) → ((n : ℕ) → table_at t ≡ got tt n → Folders (rows t) has m) → (n : ℕ) → table_at t ≡ got tt n → l ≡ m
   views_one {has} p q n e = one_view (rows t) has l m (p n e) (q n e)
 
-pub one_walked : (t : Table) (old new new' : List ℕ) (x y : Written) → Walked t old (says_written x) new → Walked t old (says_written y) new' → (x ≡ y) × (new ≡ new')
+pub one_walked : (t : Table) (old new new' : List ℕ) (x y : (Result ℕ Refusal)) → Walked t old (says_count x) new → Walked t old (says_count y) new' → (x ≡ y) × (new ≡ new')
 one_walked t old new new' x y p q =
     one_written (said_if (table_at t) (says q.order)) old new new' x y (rw (same_order t p.order q.order 0 (walks_one t p.walked q.walked)) at p.wrote) q.wrote
 
-pub one_viewed : (t : Table) (old new new' : List ℕ) (x y : Written) → Viewed t old (says_written x) new → Viewed t old (says_written y) new' → (x ≡ y) × (new ≡ new')
+pub one_viewed : (t : Table) (old new new' : List ℕ) (x y : (Result ℕ Refusal)) → Viewed t old (says_count x) new → Viewed t old (says_count y) new' → (x ≡ y) × (new ≡ new')
 one_viewed t old new new' x y p q =
     one_written (said_if (table_at t) (says q.order)) old new new' x y (rw (same_order t p.order q.order 0 (views_one t p.viewed q.viewed)) at p.wrote) q.wrote
 
 -- of paths that stand in one order
-module _ (t : Table) (out ends : List ℕ) (x y : Written) (o o' e e' : List ℕ) where
+module _ (t : Table) (out ends : List ℕ) (x y : (Result ℕ Refusal)) (o o' e e' : List ℕ) where
   one_given : (l m : List ℕ) → ((n : ℕ) → table_at t ≡ got tt n → l ≡ m)
-      → Wrote (paths_said t l (length ends)) out (says_written x) o → Wrote (paths_said t m (length ends)) out (says_written y) o'
+      → Wrote (paths_said t l (length ends)) out (says_count x) o → Wrote (paths_said t m (length ends)) out (says_count y) o'
       → e ≡ left_of (ends_said t l (length out)) ends → e' ≡ left_of (ends_said t m (length out)) ends → (x ≡ y) × (o ≡ o') × (e ≡ e')
   one_given l m one p q a b =
       let both = one_written (paths_said t m (length ends)) out o o' x y (rw (same_paths t l m (length ends) one) at p) q in
       (both.0, both.1, a ∙ ap (λ (s : Said). left_of s ends) (same_ends t l m (length out) one) ∙ sym b)
 
-  pub one_paths : AllPaths t out ends (says_written x) o e → AllPaths t out ends (says_written y) o' e' → (x ≡ y) × (o ≡ o') × (e ≡ e')
+  pub one_paths : AllPaths t out ends (says_count x) o e → AllPaths t out ends (says_count y) o' e' → (x ≡ y) × (o ≡ o') × (e ≡ e')
   one_paths p q = one_given p.order q.order (walks_one t p.walked q.walked) p.wrote q.wrote p.left q.left
 
-  pub one_view_paths : ViewPaths t out ends (says_written x) o e → ViewPaths t out ends (says_written y) o' e' → (x ≡ y) × (o ≡ o') × (e ≡ e')
+  pub one_view_paths : ViewPaths t out ends (says_count x) o e → ViewPaths t out ends (says_count y) o' e' → (x ≡ y) × (o ≡ o') × (e ≡ e')
   one_view_paths p q = one_given p.order q.order (views_one t p.viewed q.viewed) p.wrote q.wrote p.left q.left
 
 -- ── links, and a table that keeps them ──
 
-pub one_linked : (t : Table) {fs ns f g m o : List ℕ} (x y : Checked) → Linked t fs ns (says_checked x) f m → Linked t fs ns (says_checked y) g o → (x ≡ y) × (f ≡ g) × (m ≡ o)
+pub one_linked : (t : Table) {fs ns f g m o : List ℕ} (x y : (Result ℕ Refusal)) → Linked t fs ns (says_count x) f m → Linked t fs ns (says_count y) g o → (x ≡ y) × (f ≡ g) × (m ≡ o)
 one_linked t {fs} {ns} {f} {g} {m} {o} x y p q = let left = go (link_at t fs ns) refl in (tells_checked x y (p.answers ∙ sym q.answers), left.0, left.1)
   where
     go : (a : Answer (Unit {0})) → link_at t fs ns ≡ a → (f ≡ g) × (m ≡ o)
@@ -114,12 +115,12 @@ one_linked t {fs} {ns} {f} {g} {m} {o} x y p q = let left = go (link_at t fs ns)
         let b = relinked_refused (q.answers ∙ e) q.left in
         (a.0 ∙ sym b.0, a.1 ∙ sym b.1)
 
-pub one_walk_linked : (t : Table) {fs ns old new new' : List ℕ} (x y : Written) → Keeping t fs ns (says_written x) (Walked t old (says_written x) new) (new ≡ old)
-    → Keeping t fs ns (says_written y) (Walked t old (says_written y) new') (new' ≡ old) → (x ≡ y) × (new ≡ new')
+pub one_walk_linked : (t : Table) {fs ns old new new' : List ℕ} (x y : (Result ℕ Refusal)) → Keeping t fs ns (says_count x) (Walked t old (says_count x) new) (new ≡ old)
+    → Keeping t fs ns (says_count y) (Walked t old (says_count y) new') (new' ≡ old) → (x ≡ y) × (new ≡ new')
 one_walk_linked t {old = old} {new} {new'} x y p q = one_keeping p q (one_walked t old new new' x y) (λ e u w. (tells_written x y e, u ∙ sym w))
 
-pub one_paths_linked : (t : Table) {fs ns out ends o o' b b' : List ℕ} (x y : Written)
-    → Keeping t fs ns (says_written x) (AllPaths t out ends (says_written x) o b) ((o ≡ out) × (b ≡ ends))
-    → Keeping t fs ns (says_written y) (AllPaths t out ends (says_written y) o' b') ((o' ≡ out) × (b' ≡ ends)) → (x ≡ y) × (o ≡ o') × (b ≡ b')
+pub one_paths_linked : (t : Table) {fs ns out ends o o' b b' : List ℕ} (x y : (Result ℕ Refusal))
+    → Keeping t fs ns (says_count x) (AllPaths t out ends (says_count x) o b) ((o ≡ out) × (b ≡ ends))
+    → Keeping t fs ns (says_count y) (AllPaths t out ends (says_count y) o' b') ((o' ≡ out) × (b' ≡ ends)) → (x ≡ y) × (o ≡ o') × (b ≡ b')
 one_paths_linked t {out = out} {ends} {o} {o'} {b} {b'} x y p q =
     one_keeping p q (one_paths t out ends x y o o' b b') (λ e u w. (tells_written x y e, u.0 ∙ sym w.0, u.1 ∙ sym w.1))

@@ -1,6 +1,7 @@
 -- What `read_header` and `read_container` answer, said with no reader: they meet specs/Refused, which determines the answer. A field is there or it is not; then its
 -- test holds or it does not.
 -- Assumes nothing.
+use Rattle.wire.specs.Read.{Read, says_read}
 use mathlib.Core.Path.{◌≡◌, refl, sym}
 use mathlib.Core.Bool.{Bool, true, false}
 use mathlib.Core.Logic.{◌⊎◌, inl, inr}
@@ -17,13 +18,11 @@ use Rattle.layout.specs.Bytes.{number}
 use Rattle.layout.specs.Refusals.{SIZE}
 use Rattle.layout.proofs.laws.Make.{Spanned, there, short, spanned}
 use Rattle.wire.specs.Places.{num_at}
-use Rattle.wire.specs.Container.{is_kind, header_rest, header_at, container_at, says_header, says_container}
+use Rattle.wire.specs.Container.{is_kind, header_rest, header_at, container_at}
 use Rattle.wire.specs.Tests.{◌gives◌else◌, holds, fails, Otherwise, otherwise}
 use Rattle.wire.specs.Refused.{announced, kind_in, HeaderTests, header_in, HeaderSays, container_in, ContainerSays}
 use Rattle.wire.specs.declared.container.Header.{Header}
 use Rattle.wire.specs.declared.container.Container.{Container}
-use Rattle.wire.specs.declared.container.ReadHeader.{ReadHeader}
-use Rattle.wire.specs.declared.container.ReadContainer.{ReadContainer}
 
 -- ── tests ──
 
@@ -135,10 +134,10 @@ container_judged s at = beyond at (drop at s) _ rest (header_at s at) (header_ju
 -- ── of the functions' own answers; and no other answer is said of the same bytes ──
 
 module _ (s : List ℕ) (at : ℕ) where
-  pub header_says : (r : ReadHeader) → says_header r ≡ header_at s at → HeaderSays at (drop at s) (says_header r)
+  pub header_says : (r : (Read Header)) → says_read r ≡ header_at s at → HeaderSays at (drop at s) (says_read r)
   header_says r promised = rw promised (header_judged s at)
 
-  pub container_says : (r : ReadContainer) → says_container r ≡ container_at s at → ContainerSays at (drop at s) (says_container r)
+  pub container_says : (r : (Read Container)) → says_read r ≡ container_at s at → ContainerSays at (drop at s) (says_read r)
   container_says r promised = rw promised (container_judged s at)
 
 one_header : {A : Type 0} (at : ℕ) (d : List ℕ) {P : Answer A → Type 0} → ((x y : Answer A) → P x → P y → x ≡ y) → (x y : Answer A) → HeaderTests at d P x → HeaderTests at d P y → x ≡ y

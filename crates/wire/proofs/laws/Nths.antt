@@ -17,6 +17,7 @@ use Rattle.layout.proofs.laws.Make.{repeat_format, repeat_length}
 use Rattle.layout.proofs.laws.Reading.{pick_alike}
 use Rattle.layout.proofs.laws.Numbers.{zero_one}
 use Rattle.wire.specs.declared.list.Step.{Step}
+use Rattle.std.specs.declared.option.Option.{Option}
 use Rattle.wire.specs.declared.list.Values.{Values}
 use Rattle.wire.specs.Description.{PropInfo}
 use Rattle.wire.specs.declared.property.Slot.{Slot}
@@ -173,6 +174,6 @@ module _ (there : Bool) (s : List ℕ) (t : Told) (read : property_at there s 0 
   unfolding nth_at after
   nth_none k = rw read
 
-  pub steps_none : (src : Bor (List ℕ)) (l : Values) → l ≡ list_at src (place_of there s) → (r : Step) → Nexts l r → says_step r ≡ end
+  pub steps_none : (src : Bor (List ℕ)) (l : Values) → l ≡ list_at src (place_of there s) → (r : Option Step) → Nexts l r → says_step r ≡ end
   unfolding step_at
   steps_none src l is r promised = promised ∙ rw (is, ap place_from read) (pick_alike (eqb t.no 0) end)

@@ -1,6 +1,9 @@
 -- What `write_container` and `write_command` write, `read_header` and `read_container` read back. No test of specs/Refused holds of the bytes of a container, so that
 -- they are accepted, and its four numbers are those that were written.
 -- Assumes nothing.
+use Rattle.wire.specs.Read.{Read, says_read}
+use Rattle.wire.specs.declared.container.Container.{Container}
+use Rattle.wire.specs.declared.container.Header.{Header}
 use mathlib.Core.Path.{◌≡◌, refl, sym, ap, ◌∙◌}
 use mathlib.Core.Bool.{Bool, true, false}
 use mathlib.Core.Logic.{◌⊎◌, inl, inr}
@@ -17,13 +20,11 @@ use Rattle.layout.specs.Refusals.{KIND, COUNT}
 use Rattle.layout.specs.Written.{says, no, Wrote}
 use Rattle.layout.proofs.laws.Did.{Whole, whole}
 use Rattle.layout.proofs.laws.Numbers.{length_bytes, number_bytes, zero_one}
-use Rattle.wire.specs.Container.{is_kind, header_at, container_at, container_word, container_said, param_bytes, command_said, says_header, says_container}
+use Rattle.wire.specs.Container.{is_kind, header_at, container_at, container_word, container_said, param_bytes, command_said}
 use Rattle.wire.specs.Tests.{fails, Otherwise, otherwise}
 use Rattle.wire.specs.Refused.{announced, kind_in, code_in, number_in, HeaderTests, HeaderSays, ContainerSays}
 use Rattle.wire.specs.Returned.{Returns}
 use Rattle.wire.specs.declared.container.Command.{Command}
-use Rattle.wire.specs.declared.container.ReadContainer.{ReadContainer}
-use Rattle.wire.specs.declared.container.ReadHeader.{ReadHeader}
 use Rattle.wire.proofs.laws.Contained.{container_length, params_long}
 use Rattle.wire.proofs.laws.Judged.{header_judged, container_judged, header_one, container_one}
 
@@ -137,10 +138,10 @@ module _ (kind code tid : ℕ) (payload old new : List ℕ) (n : ℕ) (Code-fits
   till : 0 + (12 + length payload) ≡ n
   till = omega (arith, wrote_all.count, ap length was_due.word, container_length kind code tid payload)
 
-  pub header_returns : (r : ReadHeader) → says_header r ≡ header_at new 0 → says_header r ≡ got (record { kind = kind; code = code; number = tid; payload_len = length payload }) 12
+  pub header_returns : (r : (Read Header)) → says_read r ≡ header_at new 0 → says_read r ≡ got (record { kind = kind; code = code; number = tid; payload_len = length payload }) 12
   header_returns r e = e ∙ header_there kind code tid payload (drop (length wrote_all.bs) old) was_due.known Code-fits tid_fits was_due.small new 0 stands
 
-  pub container_returns : (r : ReadContainer) → says_container r ≡ container_at new 0 → Returns kind code tid payload new n (says_container r)
+  pub container_returns : (r : (Read Container)) → says_read r ≡ container_at new 0 → Returns kind code tid payload new n (says_read r)
   container_returns r e =
       let rest = drop (length wrote_all.bs) old in
       record {
@@ -179,7 +180,7 @@ param_there (suc n) ps i h fits = go (eqb i n) refl (λ less. param_there n ps i
         (f less)
 
 module _ (c : Command) (tid : ℕ) (old new : List ℕ) (n : ℕ) (Code-fits : c.code < 256 ^ 2) (tid_fits : tid < 256 ^ 4) (promised : Wrote (command_said c tid) old (got tt n) new) where
-  pub command_returns : (r : ReadContainer) → says_container r ≡ container_at new 0 → Returns 1 c.code tid (param_bytes c.count c.params) new n (says_container r)
+  pub command_returns : (r : (Read Container)) → says_read r ≡ container_at new 0 → Returns 1 c.code tid (param_bytes c.count c.params) new n (says_read r)
   command_returns = container_returns 1 c.code tid (param_bytes c.count c.params) old new n Code-fits tid_fits container_promised
     where
       b : Whole (command_said c tid) old n new

@@ -1,6 +1,19 @@
 -- Which refusals of the byte layer have a place: 1 and 2 and no other, whatever the reader; and from a place inside the bytes it is inside them.
 -- Each reader goes from field to field, so a line of layout's laws a field is the whole argument.
 -- Assumes nothing.
+use Rattle.std.specs.declared.result.Result.{Result}
+use Rattle.wire.specs.Read.{Read, says_read}
+use Rattle.layout.specs.declared.Refusal.{Refusal}
+use Rattle.wire.specs.declared.storage.StorageInfo.{StorageInfo}
+use Rattle.wire.specs.declared.Cursor.{Cursor}
+use Rattle.wire.specs.declared.container.Container.{Container}
+use Rattle.wire.specs.declared.Part.{Part}
+use Rattle.wire.specs.declared.object.ObjectInfo.{ObjectInfo}
+use Rattle.wire.specs.declared.property.PropInfo.{PropInfo}
+use Rattle.wire.specs.declared.property.Slot.{Slot}
+use Rattle.wire.specs.declared.container.Header.{Header}
+use Rattle.wire.specs.declared.device.DeviceInfo.{DeviceInfo}
+use Rattle.wire.specs.declared.value.Value.{Value}
 use mathlib.Core.Bool.{Bool, true, false}
 use mathlib.Core.Path.{◌≡◌, subst}
 use mathlib.Core.List.{List, [], ◌∷◌}
@@ -17,24 +30,15 @@ use Rattle.layout.proofs.laws.Told.{Telling, read, spoilt, plainly, telling_same
 use Rattle.wire.specs.Layout.{paired, width, Shape, one, many, string, undef, shape, device, object, storage}
 use Rattle.wire.specs.Codecs.{value}
 use Rattle.wire.specs.Places.{num_at, units_at, text_at, array_at, shape_at, value_at, unit_at, item_of, item_in, item_at, filled_at, shape_in, row_at}
-use Rattle.wire.specs.Says.{says_part, says_value}
+use Rattle.wire.specs.Says.{says_value}
 use Rattle.wire.specs.Utf8.{utf8_at}
 use Rattle.wire.specs.Property.{values_at, range_at, list_at, form_at, property_at, says_property, enable_at}
 use Rattle.wire.specs.Description as form
 use Rattle.wire.specs.List.{value_slot, nth_value, nth_in, nth_at, says_nth}
-use Rattle.wire.specs.Container.{is_kind, header_rest, header_at, container_at, says_header, says_container}
+use Rattle.wire.specs.Container.{is_kind, header_rest, header_at, container_at}
 use Rattle.wire.specs.Device.{says_device}
 use Rattle.wire.specs.Object.{says_object}
 use Rattle.wire.specs.Storage.{says_storage}
-use Rattle.wire.specs.declared.ReadPart.{ReadPart}
-use Rattle.wire.specs.declared.value.ReadValue.{ReadValue}
-use Rattle.wire.specs.declared.device.ReadDevice.{ReadDevice}
-use Rattle.wire.specs.declared.object.ReadObject.{ReadObject}
-use Rattle.wire.specs.declared.storage.ReadStorage.{ReadStorage}
-use Rattle.wire.specs.declared.property.ReadProperty.{ReadProperty}
-use Rattle.wire.specs.declared.list.ReadNth.{ReadNth}
-use Rattle.wire.specs.declared.container.ReadHeader.{ReadHeader}
-use Rattle.wire.specs.declared.container.ReadContainer.{ReadContainer}
 use Rattle.wire.proofs.laws.Located as Located
 
 module _ {P : ℕ → Type 0} (s : List ℕ) (closed : Closed P s) where
@@ -169,13 +173,13 @@ module _ (s : List ℕ) (at : ℕ) where
   pub number_told : {A : Type 0} (w : ℕ) (mean : ℕ → A) (x : Answer A) → x ≡ means mean (num_at w s at) → PlacedExactly x
   number_told w mean x promised = telling_exactly (telling_same promised (telling_means mean (telling_field s (everywhere s) w number at tt)))
 
-  pub text_told : (r : ReadPart) → says_part r ≡ text_at s at → PlacedExactly (says_part r)
+  pub text_told : (r : Read Part) → says_read r ≡ text_at s at → PlacedExactly (says_read r)
   text_told r promised = telling_exactly (telling_same promised (text_telling s (everywhere s) at tt))
 
-  pub array_told : (w : ℕ) (r : ReadPart) → says_part r ≡ array_at w s at → PlacedExactly (says_part r)
+  pub array_told : (w : ℕ) (r : Read Part) → says_read r ≡ array_at w s at → PlacedExactly (says_read r)
   array_told w r promised = telling_exactly (telling_same promised (array_telling s (everywhere s) w at tt))
 
-  pub value_told : (t : ℕ) (r : ReadValue) → says_value r ≡ value_at t s at → PlacedExactly (says_value r)
+  pub value_told : (t : ℕ) (r : Read Value) → says_value r ≡ value_at t s at → PlacedExactly (says_value r)
   value_told t r promised = telling_exactly (telling_same promised (shape_telling s (everywhere s) (shape t) at tt))
 
   pub utf8_told : (x : Answer (List ℕ)) → x ≡ utf8_at s at → PlacedExactly x
@@ -185,41 +189,41 @@ module _ (s : List ℕ) (at : ℕ) where
   pub unit_told : (n : ℕ) (x : Answer ℕ) → x ≡ unit_at n s at → PlacedExactly x
   unit_told n x promised = telling_exactly (telling_same promised (unit_telling s n at))
 
-  pub item_told : (t n : ℕ) (r : ReadValue) → says_value r ≡ item_at t n s at → PlacedExactly (says_value r)
+  pub item_told : (t n : ℕ) (r : Read Value) → says_value r ≡ item_at t n s at → PlacedExactly (says_value r)
   item_told t n r promised = telling_exactly (telling_same promised (item_telling s (shape t) n at))
 
-  pub device_told : (r : ReadDevice) → says_device r ≡ row_at device s at → PlacedExactly (says_device r)
+  pub device_told : (r : Read DeviceInfo) → says_device r ≡ row_at device s at → PlacedExactly (says_device r)
   device_told r promised = telling_exactly (telling_same promised (row_telling s (everywhere s) device at tt))
 
-  pub object_told : (r : ReadObject) → says_object r ≡ row_at object s at → PlacedExactly (says_object r)
+  pub object_told : (r : Read ObjectInfo) → says_object r ≡ row_at object s at → PlacedExactly (says_object r)
   object_told r promised = telling_exactly (telling_same promised (row_telling s (everywhere s) object at tt))
 
-  pub storage_told : (r : ReadStorage) → says_storage r ≡ row_at storage s at → PlacedExactly (says_storage r)
+  pub storage_told : (r : Read StorageInfo) → says_storage r ≡ row_at storage s at → PlacedExactly (says_storage r)
   storage_told r promised = telling_exactly (telling_same promised (row_telling s (everywhere s) storage at tt))
 
-  pub property_told : (there : Bool) (r : ReadProperty) → says_property r ≡ property_at there s at → PlacedExactly (says_property r)
+  pub property_told : (there : Bool) (r : Read PropInfo) → says_property r ≡ property_at there s at → PlacedExactly (says_property r)
   property_told there r promised = telling_exactly (telling_same promised (property_telling s (everywhere s) there at tt))
 
-  pub nth_told : (there : Bool) (n : ℕ) (r : ReadNth) → says_nth r ≡ nth_at there n s → PlacedExactly (says_nth r)
+  pub nth_told : (there : Bool) (n : ℕ) (r : Result (Value × Slot × Cursor) Refusal) → says_nth r ≡ nth_at there n s → PlacedExactly (says_nth r)
   nth_told there n r promised = telling_exactly (telling_same promised (nth_telling s there n))
 
-  pub header_told : (r : ReadHeader) → says_header r ≡ header_at s at → PlacedExactly (says_header r)
+  pub header_told : (r : Read Header) → says_read r ≡ header_at s at → PlacedExactly (says_read r)
   header_told r promised = telling_exactly (telling_same promised (header_telling s (everywhere s) at tt))
 
-  pub container_told : (r : ReadContainer) → says_container r ≡ container_at s at → PlacedExactly (says_container r)
+  pub container_told : (r : Read Container) → says_read r ≡ container_at s at → PlacedExactly (says_read r)
   container_told r promised = telling_exactly (telling_same promised (container_telling s (everywhere s) at tt))
 
 -- ── and, of a record from the first byte on, inside the bytes ──
 
 module _ (s : List ℕ) where
-  pub device_inside : (r : ReadDevice) → says_device r ≡ row_at device s 0 → Inside (length s) (says_device r)
+  pub device_inside : (r : Read DeviceInfo) → says_device r ≡ row_at device s 0 → Inside (length s) (says_device r)
   device_inside r promised = (told_from_0 s promised λ P c h. row_telling s c device 0 h).1
 
-  pub object_inside : (r : ReadObject) → says_object r ≡ row_at object s 0 → Inside (length s) (says_object r)
+  pub object_inside : (r : Read ObjectInfo) → says_object r ≡ row_at object s 0 → Inside (length s) (says_object r)
   object_inside r promised = (told_from_0 s promised λ P c h. row_telling s c object 0 h).1
 
-  pub storage_inside : (r : ReadStorage) → says_storage r ≡ row_at storage s 0 → Inside (length s) (says_storage r)
+  pub storage_inside : (r : Read StorageInfo) → says_storage r ≡ row_at storage s 0 → Inside (length s) (says_storage r)
   storage_inside r promised = (told_from_0 s promised λ P c h. row_telling s c storage 0 h).1
 
-  pub property_inside : (there : Bool) (r : ReadProperty) → says_property r ≡ property_at there s 0 → Inside (length s) (says_property r)
+  pub property_inside : (there : Bool) (r : Read PropInfo) → says_property r ≡ property_at there s 0 → Inside (length s) (says_property r)
   property_inside there r promised = (told_from_0 s promised λ P c h. property_telling s c there 0 h).1

@@ -1,5 +1,5 @@
 -- `abi::setting::ptp_settings_entry`: the entry's row, by the edition that was named. Assumes nothing.
-use Rattle.layout.specs.Written.{says_written}
+use Rattle.layout.specs.Answer.{says_count}
 use Rattle.std.proofs.Common.{rules}
 use Rattle.abi.proofs.setting.ptp_settings_entry.Statement.{statement}
 use Rattle.abi.proofs.setting.ptp_settings_entry.Tie as tie
@@ -7,7 +7,7 @@ use Rattle.abi.proofs.setting.ptp_settings_entry.Tie as tie
 returns : tie.Need-returns
 returns c =
     let w = c.give_entry in
-    record { answer = says_written w.result; allows = rw (← c.edition.ensures) w.ensures; told = c.told.ensures }
+    record { answer = says_count w.result; allows = rw (← c.edition.ensures) w.ensures; told = c.told.ensures }
 
 pub ptp_settings_entry_spec : {M : Type 1} → statement M
 ptp_settings_entry_spec =

@@ -1,11 +1,11 @@
 -- `abi::value::ptp_item`: what was read, as a row. Assumes nothing.
+use Rattle.layout.specs.Answer.{says_count}
 use Rattle.std.proofs.Common.{rules}
-use Rattle.layout.specs.Written.{says_written}
 use Rattle.abi.proofs.value.ptp_item.Statement.{statement}
 use Rattle.abi.proofs.value.ptp_item.Tie as tie
 
 returns : tie.Need-returns
-returns c = record { answer = says_written c.give_read.result; allows = rw (← c.item.ensures) c.give_read.ensures; told = c.told.ensures }
+returns c = record { answer = says_count c.give_read.result; allows = rw (← c.item.ensures) c.give_read.ensures; told = c.told.ensures }
 
 pub ptp_item_spec : {M : Type 1} → statement M
 ptp_item_spec = tie.close (tie.spec (λ c κs. search rules) (λ c κs. search rules) (λ c κs. search rules) (λ c. search rules) returns)

@@ -2,13 +2,13 @@
 use Rattle.std.proofs.Common.{◌≡◌, ◌-◌, true, false, leb, length, sym, ◌∙◌, arith, rules, leb-true}
 use Rattle.mending.specs.Mended.{least}
 use Rattle.mending.specs.Window.{opened}
-use Rattle.mending.proofs.Going.{least_is, least_most, least_fits, closes_off, closes_not, closes_so, finishes_not, finishes_so}
+use Rattle.mending.proofs.Going.{least_min, least_most, least_fits, closes_off, closes_not, closes_so, finishes_not, finishes_so}
 use Rattle.mending.proofs.window.finish.Statement.{statement}
 use Rattle.mending.proofs.window.finish.Tie as tie
 
 -- how much room is left
-slots : (c : tie.After-least-slots) → c.least-slots.result ≡ least (length c.args.starts.now) (length c.args.lengths.now)
-slots c = let a = c.args in least_is (length a.starts.now) (length a.lengths.now) c.least-slots.ensures
+slots : (c : tie.After-min-slots) → c.min-slots.result ≡ least (length c.args.starts.now) (length c.args.lengths.now)
+slots c = let a = c.args in c.min-slots.ensures ∙ least_min (length a.starts.now) (length a.lengths.now)
 
 returns : tie.Need-returns-then-not-all
 returns c =

@@ -4,7 +4,7 @@ use Rattle.layout.proofs.laws.Writing.{long}
 use Rattle.mending.specs.Mended.{least}
 use Rattle.mending.specs.Window.{opened, drops, closes, sweep_of}
 use Rattle.mending.proofs.Sweeping.{Sound, sound_drops, sound_keeps, sane_so, sweep_none, halted, no_slot}
-use Rattle.mending.proofs.Going.{least_is, least_most, least_fits, Goes, goes, goes_gap, goes_row, goes_end, finishes_not}
+use Rattle.mending.proofs.Going.{least_min, least_most, least_fits, Goes, goes, goes_gap, goes_row, goes_end, finishes_not}
 use Rattle.mending.proofs.window.sweep.Statement.{statement}
 use Rattle.mending.proofs.window.sweep.Tie as tie
 
@@ -17,8 +17,8 @@ abbrev decreases-loop : tie.decreases-loop-used
 decreases-loop s last out₀ starts₀ lengths₀ slots used₀ written₀ told₀ t₀ out starts lengths used written told t = length s - used
 
 -- the report's room
-slots-so : (c : tie.After-least-slots invariant-loop decreases-loop) → c.least-slots.result ≡ least (length c.args.starts.now) (length c.args.lengths.now)
-slots-so c = let a = c.args in least_is (length a.starts.now) (length a.lengths.now) c.least-slots.ensures
+slots-so : (c : tie.After-min-slots invariant-loop decreases-loop) → c.min-slots.result ≡ least (length c.args.starts.now) (length c.args.lengths.now)
+slots-so c = let a = c.args in c.min-slots.ensures ∙ least_min (length a.starts.now) (length a.lengths.now)
 
 loop-holds : tie.Need-loop-used-init invariant-loop decreases-loop
 loop-holds c =
@@ -26,36 +26,36 @@ loop-holds c =
     let s = k.args.s.now in
     let w = sweep_of k.args.last (length k.args.out.now) (least (length k.args.starts.now) (length k.args.lengths.now)) s k.args.from in
     let room : length k.args.out.now - 0 ≡ length k.args.out.now = omega arith in
-    let slots : c.least-slots.result - 0 ≡ least (length k.args.starts.now) (length k.args.lengths.now) = omega (arith, slots-so c) in
+    let slots : c.min-slots.result - 0 ≡ least (length k.args.starts.now) (length k.args.lengths.now) = omega (arith, slots-so c) in
     (rw (room, slots) (goes w k.args.out.now k.args.starts.now k.args.lengths.now), omega (arith, sane_so k.args.from (length s) k.requires), omega arith)
 
 -- in the loop: no stretch has been told beyond the room
-told_fits : (c : tie.In-loop-used invariant-loop decreases-loop) → c.loop-used.told ≤ c.least-slots.result
+told_fits : (c : tie.In-loop-used invariant-loop decreases-loop) → c.loop-used.told ≤ c.min-slots.result
 told_fits c =
     let l = c.loop-used in
     let a = c.args in
     rw (slots-so c.before.before) (least_fits (length a.starts.now) (length a.lengths.now) (omega (arith, l.invariant.0.starts_fit, l.invariant.0.starts_so.long)) (omega (arith, l.invariant.0.lengths_fit, l.invariant.0.lengths_so.long)))
 
-slots-most : (c : tie.In-loop-used invariant-loop decreases-loop) → (c.least-slots.result ≤ length c.loop-used.starts) × (c.least-slots.result ≤ length c.loop-used.lengths)
+slots-most : (c : tie.In-loop-used invariant-loop decreases-loop) → (c.min-slots.result ≤ length c.loop-used.starts) × (c.min-slots.result ≤ length c.loop-used.lengths)
 slots-most c =
     let l = c.loop-used in
     let a = c.args in
     let most = least_most (length a.starts.now) (length a.lengths.now) in
     (omega (arith, slots-so c.before.before, most.0, l.invariant.0.starts_so.long), omega (arith, slots-so c.before.before, most.1, l.invariant.0.lengths_so.long))
 
-slots-now : (c : tie.In-loop-used invariant-loop decreases-loop) → c.least-slots.result ≡ least (length c.loop-used.starts) (length c.loop-used.lengths)
+slots-now : (c : tie.In-loop-used invariant-loop decreases-loop) → c.min-slots.result ≡ least (length c.loop-used.starts) (length c.loop-used.lengths)
 slots-now c = let l = c.loop-used in rw (l.invariant.0.starts_so.long, l.invariant.0.lengths_so.long) (slots-so c.before.before)
 
 -- after the gap
 gapped : (c : tie.After-drops-t invariant-loop decreases-loop) →
     Goes (sweep_of c.args.last (length c.args.out.now) (least (length c.args.starts.now) (length c.args.lengths.now)) c.args.s.now c.args.from)
-    (sweep_of c.args.last (length c.loop-used.out - c.loop-used.written) (c.least-slots.result - c.loop-used.told) (drop c.gap_end-gap.result c.args.s.now) c.drops-t.result)
+    (sweep_of c.args.last (length c.loop-used.out - c.loop-used.written) (c.min-slots.result - c.loop-used.told) (drop c.gap_end-gap.result c.args.s.now) c.drops-t.result)
     c.args.out.now c.loop-used.out c.args.starts.now c.loop-used.starts c.args.lengths.now c.loop-used.lengths
     c.gap_end-gap.result c.loop-used.written c.loop-used.told
 gapped c =
     let l = c.loop-used in
     let a = c.args in
-    rw c.drops-t.ensures (goes_gap a.last a.s.now c.least-slots.result l.t l.invariant.0 c.gap_end-gap.ensures)
+    rw c.drops-t.ensures (goes_gap a.last a.s.now c.min-slots.result l.t l.invariant.0 c.gap_end-gap.ensures)
 
 sound : (c : tie.After-drops-t invariant-loop decreases-loop) → Sound c.drops-t.result (length c.args.s.now - c.gap_end-gap.result)
 sound c =
@@ -85,7 +85,7 @@ returns c =
     let t = d.drops-t.result in
     let come = c.all_come in
     let room = length l.out - l.written in
-    let slots = d.least-slots.result in
+    let slots = d.min-slots.result in
     let k = least (length l.starts) (length l.lengths) - l.told in
     let same : slots - l.told ≡ k = ap (λ n. n - l.told) (slots-now c.before.before.before.before.before.before.before.before.before.before.before.before.before) in
     let most = least_most (length l.starts) (length l.lengths) in
@@ -106,16 +106,16 @@ returns-2 c =
     let a = d.args in
     let t = d.drops-t.result in
     let room = length l.out - l.written in
-    let slots = d.least-slots.result in
+    let slots = d.min-slots.result in
     let none : leb (length (opened t)) (slots - l.told) ≡ false = sym c.has_slot.ensures ∙ c.if-not-has_slot.true in
     let stops = no_slot a.last room (slots - l.told) t r.run_end-run.ensures.keeps (some c.before.before.before) (leb-false (length (opened t)) (slots - l.told) none) in
     goes_end a.last a.s.now slots t (gapped c.before.before.before.before.before.before) false 0 stops (omega (arith, l.invariant.0.starts_fit)) (omega (arith, l.invariant.0.lengths_fit)) (finishes_not t refl c.answer.ensures)
 
 -- and room for the stretch before it
-slot : (c : tie.Else-not-has_slot invariant-loop decreases-loop) → length (opened c.drops-t.result) ≤ c.least-slots.result - c.loop-used.told
+slot : (c : tie.Else-not-has_slot invariant-loop decreases-loop) → length (opened c.drops-t.result) ≤ c.min-slots.result - c.loop-used.told
 slot c =
     let d = c in
-    leb-true (length (opened d.drops-t.result)) (d.least-slots.result - d.loop-used.told) (sym c.has_slot.ensures ∙ c.if-not-has_slot.false)
+    leb-true (length (opened d.drops-t.result)) (d.min-slots.result - d.loop-used.told) (sym c.has_slot.ensures ∙ c.if-not-has_slot.false)
 
 put-stretch-requires : tie.Need-put_stretch-told-requires invariant-loop decreases-loop
 put-stretch-requires c κs =
@@ -136,7 +136,7 @@ loop-again c =
     let run = r.run_end-run.result in
     let row = r.run_end-run.ensures in
     let gap = d.gap_end-gap.result in
-    let slots = d.least-slots.result in
+    let slots = d.min-slots.result in
     let most = slots-most c.before.before.before.before.before.before.before.before.before.before.before.before.before.before.before.before.before.before.before.before.before in
     let told = c.put_stretch-told.ensures in
     let on = goes_row a.last s slots t (gapped c.before.before.before.before.before.before.before.before.before.before.before.before.before.before.before.before.before.before.before) row (some c.before.before.before.before.before.before.before.before.before.before.before.before.before.before.before.before) (slot c.before.before.before.before.before.before.before.before.before.before.before.before.before.before) most.0 most.1 c.copy-written.ensures told.0 told.1 in
@@ -169,7 +169,7 @@ returns-3 c =
     let a = k.args in
     let s = a.s.now in
     let room = length l.out - l.written in
-    let slots = k.least-slots.result in
+    let slots = k.min-slots.result in
     let m = least (length l.starts) (length l.lengths) - l.told in
     let now-so : slots ≡ least (length l.starts) (length l.lengths) = rw (l.invariant.0.starts_so.long, l.invariant.0.lengths_so.long) (slots-so c.before.before.before.before.before.before.before.before.before) in
     let same : slots - l.told ≡ m = ap (λ n. n - l.told) now-so in

@@ -1,6 +1,0 @@
--- `ask::list::steps`: the steps that may be taken fall.
-use Rattle.std.proofs.Common.{◌-◌}
-use Rattle.ask.proofs.list.steps.Given as goal
-
-abbrev pub decreases-loop-n : goal.decreases-loop-n
-decreases-loop-n l = 65536 - l.n

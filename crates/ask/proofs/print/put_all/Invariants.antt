@@ -1,9 +1,0 @@
--- `ask::print::put_all`: the bytes that are left fall.
-use Rattle.std.proofs.Common.{length, ◌-◌, ◌≤◌}
-use Rattle.ask.proofs.print.put_all.Given as goal
-
-abbrev pub invariant-loop-i : goal.invariant-loop-i
-invariant-loop-i l = l.i ≤ length l.s
-
-abbrev pub decreases-loop-i : goal.decreases-loop-i
-decreases-loop-i l = length l.s - l.i

@@ -1,9 +1,0 @@
--- `ask::slice::find`: the bytes that are left fall; the place is not before the first.
-use Rattle.std.proofs.Common.{length, ◌-◌, ◌≤◌}
-use Rattle.ask.proofs.slice.find.Given as goal
-
-abbrev pub invariant-loop-i : goal.invariant-loop-i
-invariant-loop-i l = l.from ≤ l.i
-
-abbrev pub decreases-loop-i : goal.decreases-loop-i
-decreases-loop-i l = length l.s - l.i

@@ -1,6 +1,0 @@
--- `ask::width::from32`: the numbers that are left fall.
-use Rattle.std.proofs.Common.{length, ◌-◌}
-use Rattle.ask.proofs.width.from32.Given as goal
-
-abbrev pub decreases-loop-i : goal.decreases-loop-i
-decreases-loop-i l = length l.list - l.i

@@ -1,5 +1,0 @@
--- `copy::main`: the turns fall; nothing is said of what is read and written.
-use Rattle.copy.proofs.main.Given as goal
-
-abbrev pub decreases-loop-turns : goal.decreases-loop-turns
-decreases-loop-turns l = l.turns
