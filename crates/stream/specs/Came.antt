@@ -1,6 +1,6 @@
 -- What a read may give, and a write; and what a program may end with.
 -- Assumes nothing.
-use Rattle.std.specs.Prelude.{◌≡◌, ◌≢◌, Bool, true, List, ℕ, ◌≤◌, length, IfOk, Option}
+use Rattle.std.specs.Prelude.{◌≡◌, Bool, true, List, ℕ, ◌≤◌, length, IfOk, Option}
 use Rattle.std.specs.Process.{exit_status}
 use Rattle.std.specs.declared.process.ExitCode.{ExitCode}
 use Rattle.std.specs.declared.result.Result.{Result}
@@ -22,6 +22,10 @@ status_of (Err Gone) = 141
 status_of (Err Failed) = 0
 status_of (Ok _) = 0
 
--- a program ends by what a turn answered, or with 1 where its turns have no end
+-- some turn answered what gives that status
+abbrev pub Answered : {S F : Type 0} → (F → S → Result (Option S) Stopped → Type 0) → ℕ → Type 0
+Answered {S} {F} post status = (f : F) × (s : S) × (r : Result (Option S) Stopped) × post f s r × (status ≡ status_of r)
+
+-- a program ends by what some turn answered
 abbrev pub EndsBy : {S F : Type 0} → (F → S → Result (Option S) Stopped → Type 0) → ExitCode → Type 0
-EndsBy {S} {F} post code = exit_status code ≢ 1 → (f : F) × (s : S) × (r : Result (Option S) Stopped) × post f s r × (exit_status code ≡ status_of r)
+EndsBy post code = Answered post (exit_status code)
