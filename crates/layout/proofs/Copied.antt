@@ -16,16 +16,6 @@ use Rattle.layout.proofs.laws.Writing.{in_room, out_of_room, nothing}
 count : (src : List ℕ) (a n left m : ℕ) → left ≡ length src - a → m ≡ min n left → length (take n (drop a src)) ≡ m
 count src a n left m e h = length-take n (drop a src) ∙ rw (length-drop a src, ← e) (sym h)
 
--- of no byte
-pub none_copied : (out src : List ℕ) (at a n left m : ℕ) → left ≡ length src - a → m ≡ min n left → m ≡ 0 → Put out at (roomed out at (take n (drop a src))) out at
-none_copied out src at a n left m e h z =
-    let k = count src a n left m e h in
-    rw (in_room out at (take n (drop a src)) (omega arith), take_none (take n (drop a src)) (omega arith)) nothing
-  where
-    take_none : (l : List ℕ) → length l ≤ 0 → l ≡ []
-    take_none [] h = refl
-    take_none (x ∷ l) h = absurd (omega arith)
-
 -- of more than have room
 pub no_room_copied : (out src : List ℕ) (at a n left room m : ℕ) → left ≡ length src - a → m ≡ min n left → room ≡ length out - at → room < m → Put out at (roomed out at (take n (drop a src))) out at
 no_room_copied out src at a n left room m e h r z =
@@ -33,15 +23,9 @@ no_room_copied out src at a n left room m e h r z =
     rw (out_of_room out at (take n (drop a src)) (omega arith)) nothing
 
 -- of those that have room
-pub copied : (out src ys : List ℕ) (at a n left room m : ℕ) → left ≡ length src - a → m ≡ min n left → room ≡ length out - at → (m ≡ 0 → ⊥) → m ≤ room → ys ≡ take (a + m - a) (drop a src)
-    → Put out at (roomed out at (take n (drop a src))) (put_mid at (at + m - at) out ys) (at + m)
-unfolding put
-copied out src ys at a n left room m e h r z f t =
+pub copied : (out src : List ℕ) (at a n left room m : ℕ) {out' : List ℕ} {o : ℕ} → left ≡ length src - a → m ≡ min n left → room ≡ length out - at → m ≤ room
+    → Put out at (take m (drop a src)) out' o → Put out at (roomed out at (take n (drop a src))) out' o
+copied out src at a n left room m e h r f p =
     let k = count src a n left m e h in
-    let l = take n (drop a src) in
-    let same : take m (drop a src) ≡ l = rw (h, e, ← length-drop a src) (take_min n (drop a src)) in
-    let stands : ys ≡ l = t ∙ rw (add-sub_cancel_left a m) same in
-    rw (in_room out at l (omega arith)) record {
-      bytes = put_mid-paste at (at + m - at) out ys l m stands (omega arith) (sym k) ∙ rw (take_all m l (omega arith), sets-eq l out at (omega arith), k) refl;
-      place = omega arith;
-    }
+    let same : take m (drop a src) ≡ take n (drop a src) = rw (h, e, ← length-drop a src) (take_min n (drop a src)) in
+    rw (in_room out at (take n (drop a src)) (omega arith), ← same) p

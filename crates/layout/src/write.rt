@@ -40,15 +40,24 @@ pub fn store(out: &mut [u8], at: usize, n: usize, x: u64) -> usize
     store_all(out, at, n, x)
 }
 
+// A loop: the library's `copy_from_slice` calls `memmove`, and the archive for C is to need no more names from outside.
+fn copy_all(src: &[u8], a: usize, n: usize, out: &mut [u8], at: usize) -> usize
+    requires { (n ≤ length src.now - a) × (n ≤ length out.old - at) }
+    ensures { Put out.old at (take n (drop a src.now)) out.new result }
+{
+    for i in 0..n {
+        out[at + i] = src[a + i];
+    }
+    at + n
+}
+
 // The n bytes of src from a on, at a place, and the place after them.
 pub fn copy(src: &[u8], a: usize, n: usize, out: &mut [u8], at: usize) -> usize
     ensures { Put out.old at (roomed out.old at (take n (drop a src.now))) out.new result }
 {
     let m = n.min(left(src.len(), a));
-    // None: a place may lie past the end.
-    if m == 0 || left(out.len(), at) < m {
+    if left(out.len(), at) < m {
         return at;
     }
-    out[at..at + m].copy_from_slice(&src[a..a + m]);
-    at + m
+    copy_all(src, a, m, out, at)
 }

@@ -1,10 +1,15 @@
--- The part lies in front of the place where it is put again.
-use Rattle.std.proofs.Common.{◌≡◌, take, drop, arith, rules}
-use Rattle.tree.proofs.Copied.{copied}
+-- `tree::every::again`: what lies before the place is as it was. Assumes nothing.
+use Rattle.std.proofs.Common.{◌≡◌, arith}
+use Rattle.tree.proofs.Copied.{begun, one_more, all}
 use Rattle.tree.proofs.every.again.Goals as goal
+
+pub loop-i-init : goal.loop-i-init
+loop-i-init c = begun _ _ _ _ c.requires.n_bound c.requires.n_in_bounds
+
+pub loop-i-preserved : goal.loop-i-preserved
+loop-i-preserved c = one_more _ _ _ _ c.requires.n_bound c.requires.n_in_bounds c.loop-i.invariant (omega arith)
 
 pub returns : goal.returns
 returns c =
-    let halves = c.split_at_mut-front.ensures in
-    let part : c.copy_from_slice.new.self ≡ take c.args.n (drop c.args.from c.split_at_mut-front.result.0.now) = search rules in
-    copied c.args.from c.args.n c.args.o halves.front halves.back part (omega arith) (omega arith)
+    let last : c.loop-i.i ≡ c.args.n = omega arith in
+    rw last at (all _ _ _ _ c.requires.n_bound c.requires.n_in_bounds c.loop-i.invariant (omega arith))
