@@ -4,11 +4,11 @@
 // where that line begins `left out`.
 #![tactic(auto)]
 
-ghost use Rattle.std.specs.Prelude.{◌≤◌, length};
+ghost use Rattle.std.specs.Prelude.{◌≤◌, length, ⊤};
 
 use copying::Stand;
 use std::process::ExitCode;
-use stream::Stopped;
+use stream::{Stopped, Turns};
 use turns::Next;
 
 // Reads what comes after the bytes that are held.
@@ -49,22 +49,32 @@ fn tell(rt: &HostRuntime, report: &[u8], n: usize) -> Result<(), Stopped>
     )
 }
 
-fn one_turn(
-    rt: &HostRuntime,
-    s: Stand,
-    window: &mut [u8; 65536],
-    out: &mut [u8; 65536],
-    report: &mut [u8; 128],
-) -> Result<Option<Stand>, Stopped> {
-    let turn = copying::take_turn(s, window, out, report);
-    show(rt, out, turn.written)?;
-    tell(rt, report, turn.reported)?;
-    let next = turn.next;
-    let stand = turn.stand;
-    match next {
-        Next::Again => Ok(Some(stand)),
-        Next::Read => read_on(rt, stand, window).map(Some),
-        Next::Stop => Ok(None),
+// What a turn is taken with, made once and lent.
+#[derive(Drop)]
+struct Copier<'a> {
+    rt: &'a HostRuntime,
+    window: &'a mut [u8; 65536],
+    out: &'a mut [u8; 65536],
+    report: &'a mut [u8; 128],
+}
+
+impl Turns for Copier<'_> {
+    type Stand = Stand;
+
+    // Any: a read or a write may fail or not, which no contract can say.
+    ghost answers = { λ _ _ _. ⊤ };
+
+    fn take_turn(&mut self, s: Stand) -> Result<Option<Stand>, Stopped> {
+        let turn = copying::take_turn(s, self.window, self.out, self.report);
+        show(self.rt, self.out, turn.written)?;
+        tell(self.rt, self.report, turn.reported)?;
+        let next = turn.next;
+        let stand = turn.stand;
+        match next {
+            Next::Again => Ok(Some(stand)),
+            Next::Read => read_on(self.rt, stand, self.window).map(Some),
+            Next::Stop => Ok(None),
+        }
     }
 }
 
@@ -72,7 +82,11 @@ fn main(rt: HostRuntime) -> ExitCode {
     let mut window = io::large_buffer();
     let mut out = io::large_buffer();
     let mut report = [0u8; 128];
-    stream::run(copying::begin(), |stand| {
-        one_turn(&rt, stand, &mut window, &mut out, &mut report)
-    })
+    let turns = Copier {
+        rt: &rt,
+        window: &mut window,
+        out: &mut out,
+        report: &mut report,
+    };
+    stream::run(turns, copying::begin())
 }

@@ -3,11 +3,11 @@
 // its end, or to a refused record, and every line before it was written.
 #![tactic(auto)]
 
-ghost use Rattle.std.specs.Prelude.{◌≤◌, length};
+ghost use Rattle.std.specs.Prelude.{◌≤◌, length, ⊤};
 
 use listing::Stand;
 use std::process::ExitCode;
-use stream::Stopped;
+use stream::{Stopped, Turns};
 use turns::Next;
 
 // Reads what comes after the bytes that are held.
@@ -36,29 +36,42 @@ fn show(rt: &HostRuntime, out: &[u8], n: usize) -> Result<(), Stopped>
     )
 }
 
+// What a turn is taken with, made once and lent.
 // The window has room for the longest record, 65,006 bytes, with 530 to spare: one that still waits in a full window would be taken for the
 // input's end.
-fn one_turn(
-    rt: &HostRuntime,
-    s: Stand,
-    window: &mut [u8; 65536],
-    out: &mut [u8; 65536],
-) -> Result<Option<Stand>, Stopped> {
-    let turn = listing::take_turn(s, window, out);
-    show(rt, out, turn.written)?;
-    let next = turn.next;
-    let stand = turn.stand;
-    match next {
-        Next::Again => Ok(Some(stand)),
-        Next::Read => read_on(rt, stand, window).map(Some),
-        Next::Stop => Ok(None),
+#[derive(Drop)]
+struct Lister<'a> {
+    rt: &'a HostRuntime,
+    window: &'a mut [u8; 65536],
+    out: &'a mut [u8; 65536],
+}
+
+impl Turns for Lister<'_> {
+    type Stand = Stand;
+
+    // Any: a read or a write may fail or not, which no contract can say.
+    ghost answers = { λ _ _ _. ⊤ };
+
+    fn take_turn(&mut self, s: Stand) -> Result<Option<Stand>, Stopped> {
+        let turn = listing::take_turn(s, self.window, self.out);
+        show(self.rt, self.out, turn.written)?;
+        let next = turn.next;
+        let stand = turn.stand;
+        match next {
+            Next::Again => Ok(Some(stand)),
+            Next::Read => read_on(self.rt, stand, self.window).map(Some),
+            Next::Stop => Ok(None),
+        }
     }
 }
 
 fn main(rt: HostRuntime) -> ExitCode {
     let mut window = io::large_buffer();
     let mut out = io::large_buffer();
-    stream::run(listing::start(), |stand| {
-        one_turn(&rt, stand, &mut window, &mut out)
-    })
+    let turns = Lister {
+        rt: &rt,
+        window: &mut window,
+        out: &mut out,
+    };
+    stream::run(turns, listing::start())
 }

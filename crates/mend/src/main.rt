@@ -4,11 +4,11 @@
 // so what stands on standard output is the whole mended recording exactly where the last line is told.
 #![tactic(auto)]
 
-ghost use Rattle.std.specs.Prelude.{◌≤◌, length};
+ghost use Rattle.std.specs.Prelude.{◌≤◌, length, ⊤};
 
 use mending::Stand;
 use std::process::ExitCode;
-use stream::Stopped;
+use stream::{Stopped, Turns};
 use turns::Next;
 
 // Room for the stretches of a turn.
@@ -54,42 +54,57 @@ fn tell(rt: &HostRuntime, report: &[u8], n: usize) -> Result<(), Stopped>
     )
 }
 
-fn one_turn(
-    rt: &HostRuntime,
-    s: Stand,
-    window: &mut [u8; 65536],
-    out: &mut [u8; 65536],
-    starts: &mut [u64; 1024],
-    lengths: &mut [u64; 1024],
-    report: &mut [u8; 65536],
-) -> Result<Option<Stand>, Stopped> {
-    let turn = mending::take_turn(s, window, out, starts, lengths, report);
-    show(rt, out, turn.written)?;
-    tell(rt, report, turn.reported)?;
-    let next = turn.next;
-    let stand = turn.stand;
-    match next {
-        Next::Again => Ok(Some(stand)),
-        Next::Read => read_on(rt, stand, window).map(Some),
-        Next::Stop => Ok(None),
+// What a turn is taken with, made once and lent.
+#[derive(Drop)]
+struct Mender<'a> {
+    rt: &'a HostRuntime,
+    window: &'a mut [u8; 65536],
+    out: &'a mut [u8; 65536],
+    starts: &'a mut [u64; 1024],
+    lengths: &'a mut [u64; 1024],
+    report: &'a mut [u8; 65536],
+}
+
+impl Turns for Mender<'_> {
+    type Stand = Stand;
+
+    // Any: a read or a write may fail or not, which no contract can say.
+    ghost answers = { λ _ _ _. ⊤ };
+
+    fn take_turn(&mut self, s: Stand) -> Result<Option<Stand>, Stopped> {
+        let turn = mending::take_turn(
+            s,
+            self.window,
+            self.out,
+            self.starts,
+            self.lengths,
+            self.report,
+        );
+        show(self.rt, self.out, turn.written)?;
+        tell(self.rt, self.report, turn.reported)?;
+        let next = turn.next;
+        let stand = turn.stand;
+        match next {
+            Next::Again => Ok(Some(stand)),
+            Next::Read => read_on(self.rt, stand, self.window).map(Some),
+            Next::Stop => Ok(None),
+        }
     }
 }
 
 fn main(rt: HostRuntime) -> ExitCode {
     let mut window = io::large_buffer();
     let mut out = io::large_buffer();
-    let mut report = io::large_buffer();
     let mut starts = stretch_room();
     let mut lengths = stretch_room();
-    stream::run(mending::begin(), |stand| {
-        one_turn(
-            &rt,
-            stand,
-            &mut window,
-            &mut out,
-            &mut starts,
-            &mut lengths,
-            &mut report,
-        )
-    })
+    let mut report = io::large_buffer();
+    let turns = Mender {
+        rt: &rt,
+        window: &mut window,
+        out: &mut out,
+        starts: &mut starts,
+        lengths: &mut lengths,
+        report: &mut report,
+    };
+    stream::run(turns, mending::begin())
 }

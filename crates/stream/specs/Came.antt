@@ -1,6 +1,6 @@
 -- What a read may give, and a write; and what a program may end with.
 -- Assumes nothing.
-use Rattle.std.specs.Prelude.{◌≡◌, Bool, true, List, ℕ, ◌≤◌, length, IfOk, Option}
+use Rattle.std.specs.Prelude.{◌≡◌, Bool, true, List, ℕ, ◌≤◌, length, Option}
 use Rattle.std.specs.Process.{exit_status}
 use Rattle.std.specs.declared.process.ExitCode.{ExitCode}
 use Rattle.std.specs.declared.result.Result.{Result}
@@ -8,9 +8,10 @@ use Rattle.std.specs.declared.result.Result.TheVariants.{Ok, Err}
 use Rattle.stream.specs.declared.Stopped.{Stopped}
 use Rattle.stream.specs.declared.Stopped.TheVariants.{Failed, Gone}
 
--- no more than there is room for
+-- no more than there is room for; and where the read fails, that is a failure, never that a reader has gone away
 abbrev pub within : ℕ → Result ℕ Stopped → Type 0
-within room came = IfOk came (λ n. n ≤ room)
+within room (Ok n) = n ≤ room
+within room (Err e) = e ≡ Failed
 
 -- where there are no bytes, all are written
 abbrev pub at_once : List ℕ → Bool → Type 0

@@ -4,7 +4,9 @@
 #![tactic(auto)]
 
 ghost use Rattle.stream.specs.Came.{within, at_once, EndsBy};
-ghost use Rattle.std.specs.Prelude.{◌<◌, ◌≤◌, length, is_ok, IfOk};
+ghost use Rattle.std.specs.Prelude.{◌<◌, ◌≤◌, length, is_ok, IfOk, Option};
+ghost use Rattle.std.specs.declared.result.Result.{Result};
+ghost use Rattle.stream.specs.declared.Stopped.{Stopped};
 
 mod reason;
 
@@ -114,18 +116,27 @@ pub fn write_all<W: Write, P: Print>(
     Ok(())
 }
 
+// What takes a program's turns, and holds what is lent for them.
+pub trait Turns: Drop {
+    // Where a program stands between two turns.
+    type Stand: Drop;
+
+    // The answers that a turn may give, by what takes it and where it begins.
+    ghost answers: { Self → Self.Stand → Result (Option Self.Stand) Stopped → Type 0 };
+
+    // One turn: where the next one begins, none where it was the last, or why the program stops.
+    fn take_turn(&mut self, stand: Self::Stand) -> Result<Option<Self::Stand>, Stopped>
+        ensures { answers self.old stand result };
+}
+
 // Takes turns from a stand on, each from what the one before it gave, until one gives none or stops, and answers what the program ends with.
-pub fn run<S: Drop, F: FnMut(S) -> Result<Option<S>, Stopped>>(
-    start: S,
-    mut take_turn: F,
-) -> ExitCode
-    requires { F.IsAlwaysCallable take_turn }
-    ensures { EndsBy F.post result }
+pub fn run<T: Turns>(mut turns: T, start: T::Stand) -> ExitCode
+    ensures { EndsBy T.answers result }
 {
     let mut stand = start;
     // A bound that no run reaches: a loop must have one.
     for _ in 0..u64::MAX {
-        match take_turn(stand) {
+        match turns.take_turn(stand) {
             Ok(Some(next)) => stand = next,
             Ok(None) | Err(Stopped::Failed) => return ExitCode::SUCCESS,
             Err(Stopped::Gone) => return ExitCode::from(GONE),

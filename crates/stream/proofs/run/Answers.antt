@@ -3,4 +3,4 @@ use native.Mathlib.Omega.{arith}
 use Rattle.stream.proofs.run.Goals as goal
 
 pub returns : goal.returns
-returns g c = c.loop.invariant.answered (omega (arith, c.loop-test.false))
+returns g c = c.loop.invariant (omega (arith, c.loop-test.false))
