@@ -102,7 +102,7 @@ def verdict(status, log):
 
 def alike(one, other):
     """Whether two names may be of one goal or step: they begin alike, and the words of a condition follow."""
-    begins = r'(Need-|if-|loop-|[\w-]*?-(then|else)-)'
+    begins = r'(Need-|if-|loop-|then-|else-|[\w-]*?-(then|else)-)'
     one, other = re.match(begins, one), re.match(begins, other)
     return one is not None and other is not None and one.group() == other.group()
 

@@ -20,6 +20,7 @@ fn edition(second: bool) -> Edition
 }
 
 // How many entries the row has.
+#[tactic(auto, using(crate::proofs::Kept::counted_told))]
 #[unsafe(no_mangle)]
 pub extern "C" fn ptp_settings_check(second: bool, row: &[u8]) -> u64
     ensures { result ≡ word (counted (row_of (edition_of second) row.now)) }

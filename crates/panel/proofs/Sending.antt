@@ -21,7 +21,7 @@ use Rattle.wire.specs.Codecs.{text, value}
 use Rattle.wire.specs.Layout.{Text, string, Val, Shaped, Value}
 use Rattle.wire.specs.Tidy.{spelled}
 use Rattle.wire.specs.declared.container.Command.{Command}
-use Rattle.wire.proofs.laws.Formats.{value_format}
+use Rattle.wire.proofs.laws.Formats.{value_format, own_word}
 use Rattle.wire.proofs.laws.Numbered.{given_none, some_size}
 use Rattle.panel.specs.Panel.{set_device_prop_value, Chosen, chosen_in, sent, panel_said, Sends, IsValue}
 use Rattle.panel.proofs.Weighing.{chosen_word}
@@ -71,6 +71,10 @@ module _ (t : ℕ) (s : List ℕ) (v : Val) (g : Value t loose s v) where
 pub sent_as : {x : Session} {c : Command} {property : ℕ} {p w old new : List ℕ} {a : Answer _} → c ≡ set_device_prop_value property → p ≡ w → Makes x c.code (with_data c p) old a new →
     Makes x 0x1016 (with_data (set_device_prop_value property) w) old a new
 sent_as {x} {property} {w} {old} {new} {a} e f m = subst (λ q. Makes x q.code (with_data q w) old a new) e (rw f at m)
+
+-- Any other value is its own tidy word.
+pub sends_own : {x : Session} {c : Command} {property t : ℕ} {s old new : List ℕ} {r : Result Made Refusal} → c ≡ set_device_prop_value property → (t ≡ 0xFFFF → ⊥) → Makes x c.code (with_data c s) old (says_made r) new → Sends x property t s old r new
+sends_own {t} {s} e other m = record { sends = λ v g. sent_as e (own_word t other s v g) m }
 
 -- ── the answer of the whole ──
 

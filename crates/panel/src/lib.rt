@@ -135,6 +135,7 @@ fn choose(l: PropLayout, description: &[u8], code: u16, chosen: &[u8]) -> Read<u
 }
 
 // The command and its data. Of all values only a string can have another spelling than its tidy one, which takes 511 bytes at most.
+#[tactic(auto, using(crate::proofs::Sending::sends_own))]
 fn send(
     session: Session,
     property: u16,

@@ -6,6 +6,7 @@ pub mod Lasting
 pub mod ReadBack
 pub mod Told
 pub mod Placed
+pub mod Going
 pub mod Moved
 pub mod Copying
 pub mod Writing

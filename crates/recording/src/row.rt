@@ -8,6 +8,7 @@ use layout::Refusal;
 use wire::{Cursor, Read};
 
 // Accepted from end to end; or refused as its first refused record is. The place of a refusal counts in all the bytes.
+#[tactic(auto, using(crate::proofs::Going::going_start, crate::proofs::Going::going_ahead, crate::proofs::Going::going_on, crate::proofs::Going::going_refused, crate::proofs::Going::going_end))]
 pub fn read_recording(s: &[u8]) -> Read<usize>
     ensures { says_read result ≡ means length (row_of s.now) }
 {

@@ -1,14 +1,8 @@
 -- Any other value is lent on as it is; a string is made tidy first, for which there is room. The test of the type is cited by what it says, not by its name,
 -- so that an edit of it is refused for its meaning.
 use Rattle.std.proofs.Common.{sym, refl, arith, length-take-le}
-use Rattle.wire.proofs.laws.Formats.{own_word}
 use Rattle.panel.proofs.Sending.{tidy_done, tidy_never, sent_as}
 use Rattle.panel.proofs.send.Goals as goal
-
-pub returns-then-code-ne-STR : goal.returns-then-code-ne-STR
-returns-then-code-ne-STR c =
-    let a = c.args in
-    record { sends = λ v g. sent_as c.command_of-c.ensures (own_word a.code (λ e. omega (arith, e)) a.chosen.now v g) c.command_with_data.ensures }
 
 pub returns-in_err-n : goal.returns-in_err-n
 returns-in_err-n c =
